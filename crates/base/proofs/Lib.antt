@@ -1,0 +1,7 @@
+-- The laws, each in one place: tests, lists, bytes, lent memory, sorted lists, signed numbers.
+pub mod Tests
+pub mod Lists
+pub mod Bytes
+pub mod Written
+pub mod Sorted
+pub mod Signed

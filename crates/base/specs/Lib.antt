@@ -1,0 +1,5 @@
+pub mod Lists
+pub mod Bytes
+pub mod Memory
+pub mod Sorted
+pub mod Signed
