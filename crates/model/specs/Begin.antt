@@ -1,0 +1,42 @@
+-- Beginning (document 01, Numbers a call may answer). Assumes nothing.
+use mathlib.Core.Bool.{Bool, cond}
+use mathlib.Core.List.{List, [], _∷_, map}
+use Prim.Native.Nat.{ℕ}
+use lib.Dec.{eqb}
+use Rattle.model.specs.Figures.{leastInterval}
+use Rattle.model.specs.Table.{Entry, entryOf}
+use Rattle.model.specs.Digest.{networkDigest}
+use Rattle.model.specs.Trickle.{fresh}
+use Rattle.model.specs.State.{State, Endpoint}
+use Rattle.model.specs.Refusals.{firstOf, late, smallTable}
+
+-- the answer of a call that only changes state: its number (0 if accepted), and the state
+pub record Done : Type 0 where
+  pub number : ℕ
+  pub state : State
+
+-- "Beginning and resuming start all endpoints afresh with I = 200"; nothing is requested yet
+abbrev pub freshEndpoints : ℕ → List ℕ → List Endpoint
+freshEndpoints now randoms = map (λ r. record { trickle = fresh now leastInterval r; next = 0 }) randoms
+
+-- a state with a table, no peers, and every endpoint started
+unfoldable pub started : ℕ → ℕ → List ℕ → List Entry → State
+started own now randoms t =
+    record { own = own; last = now; table = t; peers = []; endpoints = freshEndpoints now randoms; digest = networkDigest own now t }
+
+-- "A beginning holds our box alone: number 0, empty data, age 0, no peers, nothing asked yet"
+unfoldable pub begun : ℕ → ℕ → List ℕ → State
+begun own now randoms = started own now randoms (entryOf own 0 [] 0 now ∷ [])
+
+-- the state to start from: that of node 0 begun at reading 0 with random numbers 0
+unfoldable pub blank : State
+blank = begun 0 0 (0 ∷ 0 ∷ 0 ∷ 0 ∷ [])
+
+-- `table` is the length of the lent table memory
+abbrev pub refusalBegin : ℕ → ℕ → ℕ
+refusalBegin now table = firstOf (late now ∷ smallTable table ∷ [])
+
+unfoldable pub begin : ℕ → ℕ → List ℕ → ℕ → State → Done
+begin own now randoms table s =
+    let n : ℕ = refusalBegin now table in
+    cond (eqb n 0) (record { number = 0; state = begun own now randoms }) (record { number = n; state = s })

@@ -1,0 +1,69 @@
+-- Every figure of document 01, once (Figures; In reach; Ticks). Assumes nothing.
+use Prim.Native.Nat.{ℕ, _*_}
+
+-- nodes with our own, and bytes of node data each; the table memory has a slot for each
+abbrev pub mostNodes : ℕ
+mostNodes = 32
+
+abbrev pub dataLimit : ℕ
+dataLimit = 1024
+
+abbrev pub tableBytes : ℕ
+tableBytes = mostNodes * dataLimit
+
+abbrev pub mostPeers : ℕ
+mostPeers = 16
+
+-- bytes of a datagram, and of what is sent
+abbrev pub mostBytes : ℕ
+mostBytes = 4096
+
+abbrev pub snapshotBytes : ℕ
+snapshotBytes = 33319
+
+-- readings of the clock are in milliseconds, at most 2^62 - 1
+abbrev pub lastReading : ℕ
+lastReading = 4611686018427387903
+
+-- Trickle: Imin, Imin doubled seven times, k, and where the count stays
+abbrev pub leastInterval : ℕ
+leastInterval = 200
+
+abbrev pub greatestInterval : ℕ
+greatestInterval = 25600
+
+abbrev pub redundancy : ℕ
+redundancy = 1
+
+abbrev pub mostCount : ℕ
+mostCount = 255
+
+-- a request for network state goes out at most once in so many milliseconds on an endpoint
+abbrev pub requestGap : ℕ
+requestGap = 200
+
+-- 2^32 - 2^15: a node this old leads no further; 2^32 - 2^16: we republish; 2^32 - 1: the largest age that is sent or saved
+abbrev pub ageLimit : ℕ
+ageLimit = 4294934528
+
+abbrev pub refreshAge : ℕ
+refreshAge = 4294901760
+
+abbrev pub mostAge : ℕ
+mostAge = 4294967295
+
+-- the interval of a peer that publishes no Keep-Alive TLV for its endpoint
+abbrev pub usualInterval : ℕ
+usualInterval = 20000
+
+-- what a reclaimed sequence number gains
+abbrev pub reclaimStep : ℕ
+reclaimStep = 1000
+
+-- bytes of a Peer TLV
+abbrev pub peerBytes : ℕ
+peerBytes = 16
+
+-- the largest number of 32 bits
+abbrev pub wide : ℕ
+wide = 4294967295

@@ -1,0 +1,24 @@
+-- Document 01 as definitions. Read in this order; each file names the section that it comes from.
+pub mod Figures
+pub mod Sequence
+pub mod Table
+pub mod Reach
+pub mod Chain
+pub mod Digest
+pub mod Trickle
+pub mod State
+pub mod Messages
+pub mod Decide
+pub mod Handle
+pub mod Refusals
+pub mod Begin
+pub mod Receive
+pub mod Tick
+pub mod Pay
+pub mod Totals
+pub mod Show
+pub mod Snapshot
+pub mod Invariant
+pub mod Examples
+pub mod Delivery
+pub mod Theorems

@@ -1,0 +1,100 @@
+-- The snapshot: saving, loading and resuming (document 01, the book). Assumes nothing.
+use mathlib.Core.Bool.{Bool, not, cond, _&&_}
+use mathlib.Core.List.{List, [], _∷_, _++_, map}
+use mathlib.Core.Option.{Option, none, some}
+use Prim.Native.Nat.{ℕ, zero, suc, _+_, min}
+use lib.ListN.{length, take, drop}
+use lib.Dec.{eqb, ltb, leb}
+use Rattle.base.specs.Lists.{keep, joinAll, orElse, isSome}
+use Rattle.wire.specs.Row.{typeOf, tlvs}
+use Rattle.wire.specs.Order.{good}
+use Rattle.wire.specs.Groups.{Read, groups, readGroups}
+use Rattle.model.specs.Figures.{mostNodes, dataLimit, mostAge, snapshotBytes, wide}
+use Rattle.model.specs.Sequence.{advance}
+use Rattle.model.specs.Table.{Entry, entryOf, idOf, ageAt, look, put}
+use Rattle.model.specs.State.{State, noEntry}
+use Rattle.model.specs.Refusals.{Row, firstOf, late, back, smallTable, smallRoom}
+use Rattle.model.specs.Begin.{Done, started}
+
+-- what a snapshot holds: our identifier, and the table
+pub record Snapshot : Type 0 where
+  pub own : ℕ
+  pub entries : List Entry
+
+-- ---- saving
+
+-- "per box ascending: identifier, number, age (largest 2^32 - 1), data length, data"
+unfoldable pub saveEntry : ℕ → Entry → List ℕ
+saveEntry now e =
+    groups (idOf e) ++ (groups (e .says .seq) ++ (groups (min (ageAt now e) mostAge) ++ (groups (length (e .says .nodeData)) ++ e .says .nodeData)))
+
+-- "edition 1, own identifier, count, then .."
+unfoldable pub saved : ℕ → ℕ → List Entry → List ℕ
+saved own now t = groups 1 ++ (groups own ++ (groups (length t) ++ joinAll (map (saveEntry now) t)))
+
+pub record Saved : Type 0 where
+  pub number : ℕ
+  pub bytes : List ℕ
+
+abbrev pub refusalSave : ℕ → ℕ → ℕ → State → ℕ
+refusalSave now table room s = firstOf (late now ∷ back now s ∷ smallRoom table room snapshotBytes ∷ [])
+
+unfoldable pub save : ℕ → ℕ → ℕ → State → Saved
+save now table room s =
+    let n : ℕ = refusalSave now table room s in
+    cond (eqb n 0) (record { number = 0; bytes = saved (s .own) now (s .table) }) (record { number = n; bytes = [] })
+
+-- ---- loading: "Anything else is 11"
+
+-- a number at most `most`, and what is made of it and of the rest
+unfoldable pub reads : {X : Type 0} → ℕ → List ℕ → (ℕ → List ℕ → Option X) → Option X
+reads most s f = orElse (readGroups most s) none (λ r. f (r .number) (r .rest))
+
+abbrev pub consTo : Entry → Option (List Entry) → Option (List Entry)
+consTo e none = none
+consTo e (some t) = some (e ∷ t)
+
+-- n entries with identifiers from `low` on, up to the end; ages count from the reading now
+unfoldable pub loadEntries : ℕ → ℕ → ℕ → List ℕ → Option (List Entry)
+loadEntries now zero low [] = some []
+loadEntries now zero low (x ∷ s) = none
+loadEntries now (suc n) low s =
+    reads wide s (λ node a. cond (ltb node low) none
+    (reads wide a (λ seq b. reads mostAge b (λ age c. reads dataLimit c (λ size d.
+    cond (leb size (length d) && good dataLimit (take size d))
+    (consTo (entryOf node seq (take size d) age now) (loadEntries now n (node + 1) (drop size d)))
+    none)))))
+
+abbrev pub holdsOwn : ℕ → List Entry → Option Snapshot
+holdsOwn own t = cond (isSome (look own t)) (some (record { own = own; entries = t })) none
+
+unfoldable pub load : ℕ → List ℕ → Option Snapshot
+load now s =
+    reads 1 s (λ edition a. cond (eqb edition 1)
+    (reads wide a (λ own b. reads mostNodes b (λ n c. cond (leb 1 n)
+    (orElse (loadEntries now n 0 c) none (holdsOwn own)) none))) none)
+
+-- ---- resuming: "drops every type 8 TLV of ours and all peers, has asked nothing yet, and republishes once"
+
+abbrev pub withoutLinks : List ℕ → List ℕ
+withoutLinks d = joinAll (keep (λ t. not (eqb (typeOf t) 8)) (tlvs d))
+
+unfoldable pub republished : ℕ → Snapshot → List Entry
+republished now b =
+    let e : Entry = orElse (look (b .own) (b .entries)) noEntry (λ f. f) in
+    put (entryOf (b .own) (advance (e .says .seq) 1) (withoutLinks (e .says .nodeData)) 0 now) (b .entries)
+
+unfoldable pub resumed : ℕ → List ℕ → Snapshot → State
+resumed now randoms b = started (b .own) now randoms (republished now b)
+
+-- 11: "not a saved book"
+abbrev pub noSnapshot : ℕ → List ℕ → Row
+noSnapshot now bytes = record { number = 11; applies = not (isSome (load now bytes)) }
+
+abbrev pub refusalResume : ℕ → List ℕ → ℕ → ℕ
+refusalResume now bytes table = firstOf (late now ∷ smallTable table ∷ noSnapshot now bytes ∷ [])
+
+unfoldable pub resume : ℕ → List ℕ → List ℕ → ℕ → State → Done
+resume now bytes randoms table s =
+    let n : ℕ = refusalResume now bytes table in
+    cond (eqb n 0) (record { number = 0; state = orElse (load now bytes) s (resumed now randoms) }) (record { number = n; state = s })

@@ -1,0 +1,78 @@
+-- A tick of one endpoint: silent peers go, then at most one Trickle event (document 01, Ticks; RFC 7787, 6.1.5). Assumes nothing.
+use mathlib.Core.Bool.{Bool, true, false, not, cond, _&&_, _||_}
+use mathlib.Core.List.{List, [], _∷_, _++_}
+use Prim.Native.Nat.{ℕ, _-_, _*_, pred}
+use lib.ListN.{length, getD}
+use lib.Dec.{eqb, leb}
+use Rattle.base.specs.Lists.{any, keep, first, joinAll, orElse}
+use Rattle.base.specs.Bytes.{u32At, same}
+use Rattle.wire.specs.Row.{typeOf, valueOf, tlvs}
+use Rattle.model.specs.Figures.{usualInterval, refreshAge, mostBytes}
+use Rattle.model.specs.Table.{Entry, ageAt, look}
+use Rattle.model.specs.Trickle.{Event, event}
+use Rattle.model.specs.State.{State, Peer, withPeers, endpointAt, withEndpoint, withTrickle, ownEntry, ownData, publish, peerTlv, settle}
+use Rattle.model.specs.Messages.{endpointTlv, networkTlv}
+use Rattle.model.specs.Refusals.{firstOf, late, back, noSuchEndpoint, smallRoom}
+
+-- ---- "the interval is in the peer's Keep-Alive TLV for its endpoint (the first), else 20,000"
+
+abbrev pub isKeepAlive : ℕ → List ℕ → Bool
+isKeepAlive endpoint t = (eqb (typeOf t) 9 && leb 8 (length (valueOf t))) && eqb (u32At (valueOf t) 0) endpoint
+
+unfoldable pub intervalIn : List ℕ → ℕ → ℕ
+intervalIn d endpoint = orElse (first (isKeepAlive endpoint) (tlvs d)) usualInterval (λ t. u32At (valueOf t) 4)
+
+unfoldable pub intervalOf : List Entry → Peer → ℕ
+intervalOf t p = orElse (look (p .node) t) usualInterval (λ e. intervalIn (e .says .nodeData) (p .theirs))
+
+-- ---- "remove every peer of the endpoint with 10 x silence at least 21 x interval, and its Peer TLV"
+
+abbrev pub silentFor : ℕ → ℕ → Bool
+silentFor interval silence = leb (21 * interval) (10 * silence)
+
+unfoldable pub goes : ℕ → ℕ → List Entry → Peer → Bool
+goes now endpoint t p = eqb (p .ours) endpoint && silentFor (intervalOf t p) (now - p .contact)
+
+-- node data without the Peer TLVs of these peers
+unfoldable pub withoutPeers : List Peer → List ℕ → List ℕ
+withoutPeers ps d = joinAll (keep (λ t. not (any (λ p. same (peerTlv p) t) ps)) (tlvs d))
+
+abbrev pub someOf : List Peer → Bool
+someOf [] = false
+someOf (p ∷ ps) = true
+
+-- "Republish once if any went, or if our age is at least 4,294,901,760"
+unfoldable pub dropSilent : ℕ → ℕ → State → State
+dropSilent now endpoint s =
+    let gone : List Peer = keep (goes now endpoint (s .table)) (s .peers) in
+    cond (someOf gone || leb refreshAge (ageAt now (ownEntry s)))
+    (withPeers (keep (λ p. not (goes now endpoint (s .table) p)) (s .peers)) (publish now (withoutPeers gone (ownData s)) s)) s
+
+-- ---- "Then at most one event"
+
+pub record Sent : Type 0 where
+  pub number : ℕ
+  pub state : State
+  pub bytes : List ℕ
+
+-- "send Node Endpoint and Network State"
+abbrev pub announcement : ℕ → State → List ℕ
+announcement endpoint s = endpointTlv (s .own) endpoint ++ networkTlv (s .digest)
+
+abbrev pub withEvent : ℕ → State → Event → Sent
+withEvent i s e =
+    record { number = 0; state = withEndpoint i (withTrickle (e .next) (endpointAt i s)) s; bytes = cond (e .sends) (announcement i s) [] }
+
+unfoldable pub ticked : ℕ → ℕ → List ℕ → State → Sent
+ticked now i randoms s =
+    let r : State = settle now randoms (dropSilent now i s) in
+    withEvent i r (event now (getD randoms (pred i) 0) (endpointAt i r .trickle))
+
+-- `table` and `room` are the lengths of the lent table memory and of the room for what is sent
+abbrev pub refusalTick : ℕ → ℕ → ℕ → ℕ → State → ℕ
+refusalTick now i table room s = firstOf (late now ∷ back now s ∷ noSuchEndpoint i ∷ smallRoom table room mostBytes ∷ [])
+
+unfoldable pub tick : ℕ → ℕ → List ℕ → ℕ → ℕ → State → Sent
+tick now i randoms table room s =
+    let n : ℕ = refusalTick now i table room s in
+    cond (eqb n 0) (ticked now i randoms s) (record { number = n; state = s; bytes = [] })
