@@ -5,3 +5,4 @@ pub mod Bytes
 pub mod Written
 pub mod Sorted
 pub mod Signed
+pub mod Places

@@ -8,7 +8,7 @@ use native.Mathlib.Omega.{arith}
 use native.Mathlib.Numerals.{add-one}
 use lib.ListN.{length, getD, take, drop, set, drop-of-length-le}
 use lib.Seq.{drop-cons, take-take, take-nil, take-all, take-suc, length-take-le, set-at, append-snoc}
-use Rattle.base.specs.Lists.{any, keep, In}
+use Rattle.base.specs.Lists.{any, keep, keepBy, In, All}
 use Rattle.base.proofs.Tests.{no-way, by-test}
 
 -- ---- places
@@ -81,3 +81,10 @@ module _ {A : Type 0} where
     pub keep-length : (xs : List A) → length (keep p xs) + length (keep (λ x. not (p x)) xs) ≡ length xs
     keep-length [] = refl
     keep-length (x ∷ xs) = let h : length (keep p xs) + length (keep (λ x. not (p x)) xs) ≡ length xs = keep-length xs in by-test (p x) (λ b. rw b (omega arith)) (λ b. rw b (omega arith))
+
+-- what holds of every element holds of those whose mark is set
+pub all-keep-by : {A : Type 0} (P : A → Type 0) (bs : List Bool) (l : List A) → All P l → All P (keepBy bs l)
+all-keep-by P [] l h = tt
+all-keep-by P (b ∷ bs) [] h = tt
+all-keep-by P (true ∷ bs) (e ∷ l) h = (h .0, all-keep-by P bs l (h .1))
+all-keep-by P (false ∷ bs) (e ∷ l) h = all-keep-by P bs l (h .1)

@@ -9,7 +9,7 @@ use native.Mathlib.Omega.{arith}
 use lib.ListN.{length}
 use lib.Dec.{eqb, ltb}
 use borrow.Author.Tests.{lt-ltb, le-ltb, eq-eqb, ne-eqb, eqb-true, eqb-false}
-use Rattle.base.specs.Lists.{In}
+use Rattle.base.specs.Lists.{In, All}
 use Rattle.base.specs.Sorted.{find, insert, Above, Ascending}
 use Rattle.base.proofs.Tests.{by-test, by-order}
 
@@ -223,3 +223,11 @@ keys-above key n (x ∷ xs) h = (h .0, keys-above key n xs (h .1))
 pub keys-ascending : {A : Type 0} (key : A → ℕ) (xs : List A) → Ascending key xs → Ascending (λ (k : ℕ). k) (map key xs)
 keys-ascending key [] h = tt
 keys-ascending key (x ∷ xs) h = (keys-above key (key x) xs (h .0), keys-ascending key xs (h .1))
+
+-- what holds of every element, and of the new one, holds after an insertion
+pub all-insert : {A : Type 0} (P : A → Type 0) (key : A → ℕ) (e : A) (l : List A) → P e → All P l → All P (insert key e l)
+unfolding insert
+all-insert P key e [] f h = (f, tt)
+all-insert P key e (x ∷ l) f h =
+    by-order (key e) (key x) (λ lt. rw (insert-lt key e x l lt) (f, h)) (λ eq. rw (insert-eq key e x l eq) (f, h .1))
+    (λ gt. rw (insert-gt key e x l gt) (h .0, all-insert P key e l f (h .1)))

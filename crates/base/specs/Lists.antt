@@ -44,3 +44,9 @@ In a (x ∷ xs) = (a ≡ x) ⊎ In a xs
 abbrev pub All : {A : Type 0} → (A → Type 0) → List A → Type 0
 All P [] = Unit {0}
 All P (x ∷ xs) = P x × All P xs
+
+-- the elements whose mark is set
+abbrev pub keepBy {ℓ} : {A : Type ℓ} → List Bool → List A → List A
+keepBy [] xs = []
+keepBy (b ∷ bs) [] = []
+keepBy (b ∷ bs) (x ∷ xs) = cond b (x ∷ keepBy bs xs) (keepBy bs xs)

@@ -1,0 +1,2 @@
+-- The laws of Trickle, case by case.
+pub mod Laws
