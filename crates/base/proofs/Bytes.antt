@@ -84,3 +84,11 @@ pub bytes-take : (n : ℕ) (s : List ℕ) → Bytes s → Bytes (take n s)
 bytes-take zero s h = tt
 bytes-take (suc n) [] h = tt
 bytes-take (suc n) (b ∷ s) h = (h .0, bytes-take n s (h .1))
+
+pub byte-at : (s : List ℕ) (i : ℕ) → Bytes s → getD s i 0 < 256
+byte-at [] i h = omega arith
+byte-at (b ∷ s) zero h = h .0
+byte-at (b ∷ s) (suc i) h = byte-at s i (h .1)
+
+pub u32-small : (s : List ℕ) (i : ℕ) → Bytes s → u32At s i < 4294967296
+u32-small s i h = omega (arith, byte-at s i h, byte-at s (i + 1) h, byte-at s (i + 2) h, byte-at s (i + 3) h)

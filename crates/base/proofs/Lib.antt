@@ -1,5 +1,6 @@
--- The laws, each in one place: tests, lists, bytes, lent memory, sorted lists, signed numbers.
+-- The laws, each in one place: tests, options, lists, bytes, lent memory, sorted lists, signed numbers.
 pub mod Tests
+pub mod Options
 pub mod Lists
 pub mod Bytes
 pub mod Written

@@ -1,15 +1,15 @@
 -- Laws of lists: places, membership, and what the tests keep. Assumes nothing.
-use mathlib.Core.Path.{_≡_, refl, sym, ap, _∙_}
+use mathlib.Core.Path.{_≡_, refl, sym, ap, _∙_, subst}
 use mathlib.Core.Bool.{Bool, true, false, not, cond}
-use mathlib.Core.List.{List, [], _∷_, _++_, append-nil}
+use mathlib.Core.List.{List, [], _∷_, _++_, map, append-assoc, append-nil}
 use mathlib.Core.Logic.{_⊎_, inl, inr, ⊎-elim}
 use Prim.Native.Nat.{ℕ, zero, suc, _+_, _-_, _≤_, _<_}
 use native.Mathlib.Omega.{arith}
 use native.Mathlib.Numerals.{add-one}
 use lib.ListN.{length, getD, take, drop, set, drop-of-length-le}
 use lib.Seq.{drop-cons, take-take, take-nil, take-all, take-suc, length-take-le, set-at, append-snoc}
-use Rattle.base.specs.Lists.{any, keep, keepBy, In, All}
-use Rattle.base.proofs.Tests.{no-way, by-test}
+use Rattle.base.specs.Lists.{any, keep, keepBy, joinAll, In, All}
+use Rattle.base.proofs.Tests.{no-way, by-test, or-left, or-right}
 
 -- ---- places
 
@@ -88,3 +88,103 @@ all-keep-by P [] l h = tt
 all-keep-by P (b ∷ bs) [] h = tt
 all-keep-by P (true ∷ bs) (e ∷ l) h = (h .0, all-keep-by P bs l (h .1))
 all-keep-by P (false ∷ bs) (e ∷ l) h = all-keep-by P bs l (h .1)
+
+-- ---- mapped and joined lists
+
+module _ {A B : Type 0} (f : A → B) where
+  pub in-map : (a : A) (xs : List A) → In a xs → In (f a) (map f xs)
+  in-map a [] m = absurd m
+  in-map a (x ∷ xs) (inl e) = inl (ap f e)
+  in-map a (x ∷ xs) (inr m) = inr (in-map a xs m)
+
+  pub map-in : (b : B) (xs : List A) → In b (map f xs) → (a : A) × In a xs × (f a ≡ b)
+  map-in b [] m = absurd m
+  map-in b (x ∷ xs) (inl e) = (x, inl refl, sym e)
+  map-in b (x ∷ xs) (inr m) = let r = map-in b xs m in (r .0, inr (r .1), r .2)
+
+  pub map-keep : (p : B → Bool) (xs : List A) → map f (keep (λ a. p (f a)) xs) ≡ keep p (map f xs)
+  map-keep p [] = refl
+  map-keep p (x ∷ xs) = let ih = map-keep p xs in by-test (p (f x)) (λ e. rw (e, ih)) (λ e. rw (e, ih))
+
+pub map-append : {A B : Type 0} (f : A → B) (xs ys : List A) → map f (xs ++ ys) ≡ map f xs ++ map f ys
+map-append f [] ys = refl
+map-append f (x ∷ xs) ys = rw (map-append f xs ys)
+
+pub map-same : {A B : Type 0} (f g : A → B) (xs : List A) → ((x : A) → f x ≡ g x) → map f xs ≡ map g xs
+map-same f g [] h = refl
+map-same f g (x ∷ xs) h = rw (h x, map-same f g xs h)
+
+pub join-append : {A : Type 0} (xs ys : List (List A)) → joinAll (xs ++ ys) ≡ joinAll xs ++ joinAll ys
+join-append [] ys = refl
+join-append (x ∷ xs) ys = rw (join-append xs ys) (sym (append-assoc x (joinAll xs) (joinAll ys)))
+
+-- a list with an element is not empty
+pub in-some : {A : Type 0} (a : A) (xs : List A) → In a xs → 1 ≤ length xs
+in-some a [] m = absurd m
+in-some a (x ∷ xs) m = omega arith
+
+-- ---- what tests keep, and find
+
+pub keep-append : {A : Type 0} (p : A → Bool) (xs ys : List A) → keep p (xs ++ ys) ≡ keep p xs ++ keep p ys
+keep-append p [] ys = refl
+keep-append p (x ∷ xs) ys = by-test (p x) (λ b. rw (b, keep-append p xs ys)) (λ b. rw (b, keep-append p xs ys))
+
+pub keep-few : {A : Type 0} (p : A → Bool) (xs : List A) → length (keep p xs) ≤ length xs
+keep-few p xs = omega (arith, keep-length p xs)
+
+pub keep-none : {A : Type 0} (p : A → Bool) (xs : List A) → ((a : A) → In a xs → p a ≡ false) → keep p xs ≡ []
+keep-none p [] h = refl
+keep-none p (x ∷ xs) h = rw (h x (inl refl)) (keep-none p xs (λ a m. h a (inr m)))
+
+module _ {A : Type 0} (f : A → Bool) where
+  pub any-append : (xs ys : List A) → any f xs ≡ false → any f ys ≡ false → any f (xs ++ ys) ≡ false
+  any-append [] ys p q = q
+  any-append (x ∷ xs) ys p q = rw (or-left (f x) _ p) (any-append xs ys (or-right (f x) _ p) q)
+
+  pub any-keep : (g : A → Bool) (xs : List A) → any f xs ≡ false → any f (keep g xs) ≡ false
+  any-keep g [] p = refl
+  any-keep g (x ∷ xs) p =
+      let ih : any f (keep g xs) ≡ false = any-keep g xs (or-right (f x) _ p) in
+      by-test (g x) (λ b. rw (b, or-left (f x) _ p) ih) (λ b. rw b ih)
+
+  pub not-any : (a : A) (xs : List A) → any f xs ≡ false → In a xs → f a ≡ false
+  not-any a xs p m = by-test (f a) (λ b. no-way (any f xs) (any-in f a xs m b) p) (λ b. b)
+
+-- ---- something of every element
+
+module _ {A : Type 0} where
+  module _ (P : A → Type 0) where
+    pub all-in : (a : A) (xs : List A) → All P xs → In a xs → P a
+    all-in a [] h m = absurd m
+    all-in a (x ∷ xs) h (inl e) = subst P (sym e) (h .0)
+    all-in a (x ∷ xs) h (inr m) = all-in a xs (h .1) m
+
+    pub in-all : (xs : List A) → ((a : A) → In a xs → P a) → All P xs
+    in-all [] f = tt
+    in-all (x ∷ xs) f = (f x (inl refl), in-all xs (λ a m. f a (inr m)))
+
+    pub all-keep : (f : A → Bool) (xs : List A) → All P xs → All P (keep f xs)
+    all-keep f [] h = tt
+    all-keep f (x ∷ xs) h = by-test (f x) (λ b. rw b (h .0, all-keep f xs (h .1))) (λ b. rw b (all-keep f xs (h .1)))
+
+    pub all-append : (xs ys : List A) → All P xs → All P ys → All P (xs ++ ys)
+    all-append [] ys h k = k
+    all-append (x ∷ xs) ys h k = (h .0, all-append xs ys (h .1) k)
+
+    pub all-set : (xs : List A) (i : ℕ) (a : A) → All P xs → P a → All P (set xs i a)
+    all-set [] i a h p = tt
+    all-set (x ∷ xs) zero a h p = (p, h .1)
+    all-set (x ∷ xs) (suc i) a h p = (h .0, all-set xs i a (h .1) p)
+
+  pub all-more : (P Q : A → Type 0) → ((a : A) → P a → Q a) → (xs : List A) → All P xs → All Q xs
+  all-more P Q f [] h = tt
+  all-more P Q f (x ∷ xs) h = (f x (h .0), all-more P Q f xs (h .1))
+
+  pub all-map : (P : A → Type 0) (f : A → A) → ((a : A) → P a → P (f a)) → (xs : List A) → All P xs → All P (map f xs)
+  all-map P f g [] h = tt
+  all-map P f g (x ∷ xs) h = (g x (h .0), all-map P f g xs (h .1))
+
+pub all-take : {A : Type 0} (P : A → Type 0) (n : ℕ) (xs : List A) → All P xs → All P (take n xs)
+all-take P zero xs h = tt
+all-take P (suc n) [] h = tt
+all-take P (suc n) (x ∷ xs) h = (h .0, all-take P n xs (h .1))

@@ -1,10 +1,10 @@
 -- Signed numbers: their sizes, their sums, and how code's words stand for them. Assumes nothing.
 use mathlib.Core.Path.{_≡_, refl, sym, ap, _∙_}
 use mathlib.Core.Bool.{Bool, true, false, cond}
-use mathlib.Core.List.{List, [], _∷_, _++_}
+use mathlib.Core.List.{List, [], _∷_, _++_, map}
 use Prim.Native.Nat.{ℕ, zero, suc, _+_, _-_, _*_, _^_, _<_, _≤_}
 use native.Mathlib.Omega.{arith}
-use lib.IntN.{ℤ, pos, negsuc, _+ℤ_, _-ℤ_, +ℤ-assoc, +ℤ-idl}
+use lib.IntN.{ℤ, pos, negsuc, _+ℤ_, _-ℤ_, +ℤ-assoc, +ℤ-comm, +ℤ-idl}
 use lib.Dec.{ltb}
 use lib.Signed.{mag, ltZ}
 use borrow.Author.Tests.{ltb-true, le-ltb, lt-ltb}
@@ -28,6 +28,19 @@ mag-add (negsuc a) (negsuc b) = omega arith
 pub sum-append : (xs ys : List ℤ) → sumℤ (xs ++ ys) ≡ sumℤ xs +ℤ sumℤ ys
 sum-append [] ys = sym (+ℤ-idl (sumℤ ys))
 sum-append (x ∷ xs) ys = rw (sum-append xs ys) (sym (+ℤ-assoc x (sumℤ xs) (sumℤ ys)))
+
+-- sums over one list of two terms each
+swap : (a b c d : ℤ) → (a +ℤ b) +ℤ (c +ℤ d) ≡ (a +ℤ c) +ℤ (b +ℤ d)
+swap a b c d =
+    +ℤ-assoc a b (c +ℤ d) ∙ ap (λ (x : ℤ). a +ℤ x) (sym (+ℤ-assoc b c d) ∙ ap (λ (x : ℤ). x +ℤ d) (+ℤ-comm b c) ∙ +ℤ-assoc c b d) ∙ sym (+ℤ-assoc a c (b +ℤ d))
+
+pub sum-both : {A : Type 0} (f g : A → ℤ) (xs : List A) → sumℤ (map (λ x. f x +ℤ g x) xs) ≡ sumℤ (map f xs) +ℤ sumℤ (map g xs)
+sum-both f g [] = refl
+sum-both f g (x ∷ xs) = ap (λ (s : ℤ). (f x +ℤ g x) +ℤ s) (sum-both f g xs) ∙ swap (f x) (g x) (sumℤ (map f xs)) (sumℤ (map g xs))
+
+pub sum-zeros : {A : Type 0} (xs : List A) → sumℤ (map (λ (x : A). pos 0) xs) ≡ pos 0
+sum-zeros [] = refl
+sum-zeros (x ∷ xs) = +ℤ-idl (sumℤ (map (λ x. pos 0) xs)) ∙ sum-zeros xs
 
 -- ---- a signed number in a local is its bits
 

@@ -9,7 +9,7 @@ use native.Mathlib.Omega.{arith}
 use lib.ListN.{length}
 use lib.Dec.{eqb, ltb}
 use borrow.Author.Tests.{lt-ltb, le-ltb, eq-eqb, ne-eqb, eqb-true, eqb-false}
-use Rattle.base.specs.Lists.{In, All}
+use Rattle.base.specs.Lists.{keep, orElse, In, All}
 use Rattle.base.specs.Sorted.{find, insert, Above, Ascending}
 use Rattle.base.proofs.Tests.{by-test, by-order}
 
@@ -231,3 +231,82 @@ all-insert P key e [] f h = (f, tt)
 all-insert P key e (x ∷ l) f h =
     by-order (key e) (key x) (λ lt. rw (insert-lt key e x l lt) (f, h)) (λ eq. rw (insert-eq key e x l eq) (f, h .1))
     (λ gt. rw (insert-gt key e x l gt) (h .0, all-insert P key e l f (h .1)))
+
+-- ---- the images of a map, sorted by their key
+
+module _ {A B : Type 0} (f : A → B) (key : B → ℕ) where
+  pub above-map : (n : ℕ) (xs : List A) → Above key n (map f xs) ≡ Above (λ a. key (f a)) n xs
+  above-map n [] = refl
+  above-map n (x ∷ xs) = ap (λ (T : Type 0). (n < key (f x)) × T) (above-map n xs)
+
+  pub ascending-map : (xs : List A) → Ascending key (map f xs) ≡ Ascending (λ a. key (f a)) xs
+  ascending-map [] = refl
+  ascending-map (x ∷ xs) = rw (above-map (key (f x)) xs, ascending-map xs)
+
+  pub find-map : (n : ℕ) (xs : List A) → find key n (map f xs) ≡ orElse (find (λ a. key (f a)) n xs) none (λ a. some (f a))
+  unfolding find
+  find-map n [] = refl
+  find-map n (x ∷ xs) = by-test (eqb (key (f x)) n) (λ e. rw e) (λ e. rw e (find-map n xs))
+
+  pub insert-map : (a : A) (xs : List A) → map f (insert (λ a. key (f a)) a xs) ≡ insert key (f a) (map f xs)
+  unfolding insert
+  insert-map a [] = refl
+  insert-map a (x ∷ xs) =
+      let ih = insert-map a xs in
+      by-test (ltb (key (f a)) (key (f x))) (λ e. rw e) (λ e. by-test (eqb (key (f a)) (key (f x))) (λ q. rw (e, q)) (λ q. rw (e, q, ih)))
+
+-- ---- kept, inserted and found
+
+module _ {A : Type 0} (key : A → ℕ) where
+  pub keep-above : (f : A → Bool) (n : ℕ) (xs : List A) → Above key n xs → Above key n (keep f xs)
+  keep-above f n [] h = tt
+  keep-above f n (x ∷ xs) h = by-test (f x) (λ b. rw b (h .0, keep-above f n xs (h .1))) (λ b. rw b (keep-above f n xs (h .1)))
+
+  pub keep-ascending : (f : A → Bool) (xs : List A) → Ascending key xs → Ascending key (keep f xs)
+  keep-ascending f [] h = tt
+  keep-ascending f (x ∷ xs) h =
+      by-test (f x) (λ b. rw b (keep-above f (key x) xs (h .0), keep-ascending f xs (h .1))) (λ b. rw b (keep-ascending f xs (h .1)))
+
+  pub above-all : (n : ℕ) (xs : List A) → All (λ a. n < key a) xs → Above key n xs
+  above-all n [] h = tt
+  above-all n (x ∷ xs) h = (h .0, above-all n xs (h .1))
+
+  -- what is found stays found if it is kept
+  pub find-keep : (f : A → Bool) (n : ℕ) (a : A) (xs : List A) → find key n xs ≡ some a → f a ≡ true → find key n (keep f xs) ≡ some a
+  unfolding find
+  find-keep f n a [] e k = e
+  find-keep f n a (x ∷ xs) e k =
+      by-test (eqb (key x) n)
+      (λ t. let q : a ≡ x = cc (find-yes key n x xs (eqb-true (key x) n t)) in let b : f x ≡ true = ap f (sym q) ∙ k in rw (b, t) (ap some (sym q)))
+      (λ t. let ih : find key n (keep f xs) ≡ some a = find-keep f n a xs (sym (find-no key n x xs (eqb-false (key x) n t)) ∙ e) k in
+      by-test (f x) (λ b. rw (b, t) ih) (λ b. rw b ih))
+
+  pub find-inserted : (a : A) (xs : List A) → find key (key a) (insert key a xs) ≡ some a
+  unfolding insert
+  find-inserted a [] = find-yes key (key a) a [] refl
+  find-inserted a (x ∷ xs) =
+      by-order (key a) (key x) (λ lt. rw (insert-lt key a x xs lt) (find-yes key (key a) a (x ∷ xs) refl))
+      (λ eq. rw (insert-eq key a x xs eq) (find-yes key (key a) a xs refl))
+      (λ gt. rw (insert-gt key a x xs gt) (find-no key (key a) x (insert key a xs) (λ e. omega arith) ∙ find-inserted a xs))
+
+  pub find-other : (n : ℕ) (a : A) (xs : List A) → ¬ (key a ≡ n) → find key n (insert key a xs) ≡ find key n xs
+  unfolding insert
+  find-other n a [] ne = find-no key n a [] ne
+  find-other n a (x ∷ xs) ne =
+      by-order (key a) (key x) (λ lt. rw (insert-lt key a x xs lt) (find-no key n a (x ∷ xs) ne))
+      (λ eq. rw (insert-eq key a x xs eq) (find-no key n a xs ne ∙ sym (find-no key n x xs (λ e. ne (eq ∙ e)))))
+      (λ gt. rw (insert-gt key a x xs gt)
+      (by-test (eqb (key x) n) (λ t. find-yes key n x (insert key a xs) (eqb-true (key x) n t) ∙ sym (find-yes key n x xs (eqb-true (key x) n t)))
+      (λ t. find-no key n x (insert key a xs) (eqb-false (key x) n t) ∙ find-other n a xs ne ∙ sym (find-no key n x xs (eqb-false (key x) n t)))))
+
+  -- over an element with the same key: as many as before
+  pub over-length : (a b : A) (xs : List A) → Ascending key xs → In b xs → key b ≡ key a → length (insert key a xs) ≡ length xs
+  over-length a b [] h m e = absurd m
+  over-length a b (x ∷ xs) h m e =
+      by-order (key a) (key x) (λ lt. absurd (let l : key a < key b = above-in key (x ∷ xs) b (lt, above-less key xs (omega arith) (h .0)) m in omega arith))
+      (λ eq. rw (insert-eq key a x xs eq))
+      (λ gt. rw (insert-gt key a x xs gt) (ap suc (over-length a b xs (h .1) (tail gt m) e)))
+    where
+      tail : key x < key a → (b ≡ x) ⊎ In b xs → In b xs
+      tail gt (inl q) = let k : key b ≡ key x = ap key q in absurd (omega arith)
+      tail gt (inr r) = r

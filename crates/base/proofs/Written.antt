@@ -284,3 +284,21 @@ module _ (d : List ℕ) (i e : ℕ) where
 
   pub zeros-done : e ≤ i → written d i (noughts (e - i)) ≡ d
   zeros-done p = let k : e - i ≡ 0 = omega arith in rw k (written-none d i)
+
+-- one piece more behind what was written
+pub written-more : (d : List ℕ) (at : ℕ) (x y d1 d2 : List ℕ) (a : ℕ) → d1 ≡ written d at x → a ≡ at + length x → d2 ≡ written d1 a y → a + length y ≤ length d
+    → d2 ≡ written d at (x ++ y)
+written-more d at x y d1 d2 a p q r h = r ∙ rw (p, q) (written-append d x y at (omega arith))
+
+-- five pieces, one after the other
+module _ (d : List ℕ) (at : ℕ) (x1 x2 x3 x4 x5 d1 d2 d3 d4 d5 : List ℕ) (a1 a2 a3 a4 : ℕ)
+    (e1 : d1 ≡ written d at x1) (q1 : a1 ≡ at + length x1) (e2 : d2 ≡ written d1 a1 x2) (q2 : a2 ≡ a1 + length x2)
+    (e3 : d3 ≡ written d2 a2 x3) (q3 : a3 ≡ a2 + length x3) (e4 : d4 ≡ written d3 a3 x4) (q4 : a4 ≡ a3 + length x4)
+    (e5 : d5 ≡ written d4 a4 x5) (fits : a4 + length x5 ≤ length d) where
+  pub written-five : d5 ≡ written d at (x1 ++ (x2 ++ (x3 ++ (x4 ++ x5))))
+  written-five =
+      let f2 : d2 ≡ written d at (x1 ++ x2) = written-more d at x1 x2 d1 d2 a1 e1 q1 e2 (omega arith) in
+      let f3 : d3 ≡ written d at ((x1 ++ x2) ++ x3) = written-more d at (x1 ++ x2) x3 d2 d3 a2 f2 (simp length-append (omega arith)) e3 (omega arith) in
+      let f4 : d4 ≡ written d at (((x1 ++ x2) ++ x3) ++ x4) = written-more d at ((x1 ++ x2) ++ x3) x4 d3 d4 a3 f3 (simp length-append (omega arith)) e4 (omega arith) in
+      let w : ((((x1 ++ x2) ++ x3) ++ x4) ++ x5) ≡ x1 ++ (x2 ++ (x3 ++ (x4 ++ x5))) = simp append-assoc in
+      written-more d at (((x1 ++ x2) ++ x3) ++ x4) x5 d4 d5 a4 f4 (simp length-append (omega arith)) e5 fits ∙ ap (written d at) w

@@ -14,6 +14,7 @@ use Rattle.model.specs.Sequence.{circle}
 use Rattle.model.specs.Table.{Entry, idOf, look}
 use Rattle.model.specs.Digest.{networkDigest}
 use Rattle.model.specs.Trickle.{Trickle}
+use Rattle.model.specs.Snapshot.{Snapshot}
 use Rattle.model.specs.State.{State, Peer, Endpoint, ownData, peerTlv, isPeer}
 
 -- an entry: numbers in range, good data, taken no later than the last reading
@@ -54,18 +55,42 @@ pub record EndpointFits (last : ℕ) (e : Endpoint) : Type 0 where
   pub trickle : TrickleFits last (e .trickle)
   pub next : e .next ≤ last + requestGap
 
-pub record Valid (s : State) : Type 0 where
+-- ---- the parts, at a reading
+
+pub record TableFits (own now : ℕ) (t : List Entry) : Type 0 where
+  pub ascending : Ascending idOf t
+  pub held : isSome (look own t) ≡ true
+  pub nodes : length t ≤ mostNodes
+  pub entries : All (EntryFits now) t
+
+pub record PeersFit (own now : ℕ) (ps : List Peer) : Type 0 where
+  pub few : length ps ≤ mostPeers
+  pub once : Once ps
+  pub all : All (PeerFits own now) ps
+
+-- the type 8 TLVs of the data d are exactly the peers' Peer TLVs
+abbrev pub Linked : List ℕ → List Peer → Type 0
+Linked d ps = (t : List ℕ) → (In t (tlvs d) × (typeOf t ≡ 8)) ↔ In t (map peerTlv ps)
+
+pub record EndpointsFit (now : ℕ) (es : List Endpoint) : Type 0 where
+  pub four : length es ≡ 4
+  pub all : All (EndpointFits now) es
+
+-- what holds of the state within a call at the reading now
+pub record Midway (now : ℕ) (s : State) : Type 0 where
   pub own : s .own < circle
+  pub table : TableFits (s .own) now (s .table)
+  pub peers : PeersFit (s .own) now (s .peers)
+  pub links : Linked (ownData s) (s .peers)
+  pub endpoints : EndpointsFit now (s .endpoints)
+
+-- what holds of it between calls: the same at the last reading, and "the stored digest is the network digest at the last reading"
+pub record Valid (s : State) : Type 0 where
+  pub inside : Midway (s .last) s
   pub last : s .last ≤ lastReading
-  pub ascending : Ascending idOf (s .table)
-  pub held : isSome (look (s .own) (s .table)) ≡ true
-  pub nodes : length (s .table) ≤ mostNodes
-  pub entries : All (EntryFits (s .last)) (s .table)
-  pub few : length (s .peers) ≤ mostPeers
-  pub once : Once (s .peers)
-  pub peers : All (PeerFits (s .own) (s .last)) (s .peers)
-  -- the type 8 TLVs of our data are exactly the peers' Peer TLVs
-  pub links : (t : List ℕ) → (In t (tlvs (ownData s)) × (typeOf t ≡ 8)) ↔ In t (map peerTlv (s .peers))
-  pub four : length (s .endpoints) ≡ 4
-  pub endpoints : All (EndpointFits (s .last)) (s .endpoints)
   pub digest : s .digest ≡ networkDigest (s .own) (s .last) (s .table)
+
+-- what a snapshot that loads holds: our own node in a table that fits
+pub record SnapshotFits (now : ℕ) (b : Snapshot) : Type 0 where
+  pub own : b .own < circle
+  pub table : TableFits (b .own) now (b .entries)

@@ -6,10 +6,10 @@ use sha256::hash16;
 ghost use mathlib.Core.Path.{_≡_};
 ghost use mathlib.Core.Bool.{cond};
 ghost use mathlib.Core.List.{_∷_, []};
-ghost use Prim.Native.Nat.{_+_, _*_, _≤_, _<_};
+ghost use Prim.Native.Nat.{_+_, _-_, _*_, _≤_, _<_};
 ghost use lib.ListN.{length};
 ghost use Rattle.base.specs.Memory.{spliced, cut};
-ghost use Rattle.model.specs.Figures.{mostNodes, dataLimit, tableBytes};
+ghost use Rattle.model.specs.Figures.{dataLimit, tableBytes, mostAge, lastReading};
 ghost use Rattle.model.specs.Table.{entryOf};
 ghost use Rattle.sha256.specs.Sha256.{hash16};
 ghost use Rattle.table.specs.View.{view, live, rowAt, dataOf, Free, Rows, Kept, Stands, Gap, Finding, Read, Stored, Renumbered, Purged, SlotUsed, withRow, inserted};
@@ -70,6 +70,14 @@ pub fn row_at(t: Table, i: usize) -> Entry
     ensures { λ r. ⌜ Read t i r ⌝ }
 {
     t.entries[i]
+}
+
+// The age of a node at a reading.
+pub fn age_at(e: Entry, clock: u64) -> u64
+    requires { ⌜ (e .since ≤ clock) × ((e .age ≤ mostAge) × (clock ≤ lastReading)) ⌝ }
+    ensures { λ r. ⌜ r ≡ e .age + (clock - e .since) ⌝ }
+{
+    e.age + (clock - e.since)
 }
 
 // The table with e at place i.

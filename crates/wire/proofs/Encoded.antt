@@ -9,11 +9,11 @@ use lib.Seq.{take-append-seam, drop-append-seam, drop-append-add, take-all, leng
 use Rattle.base.specs.Bytes.{Bytes, big16, zeros, noughts}
 use Rattle.base.specs.Memory.{written}
 use Rattle.wire.specs.Row.{typeOf, lengthOf, valueOf, padding, sizeOf, heads, encode}
-use Rattle.wire.specs.Payment.{Payment, paymentValue, paymentTlv, readPayment}
+use Rattle.wire.specs.Payment.{Payment, Payable, paymentValue, paymentTlv, readPayment}
 use Rattle.wire.proofs.Rows.{heads-made, heads-four, heads-zeros}
 use Rattle.base.proofs.Tests.{and-left, and-right}
 use Rattle.wire.proofs.Good.{Whole}
-use Rattle.wire.proofs.Payments.{Payable, payment-back}
+use Rattle.wire.proofs.Payments.{payment-back}
 use Rattle.base.proofs.Written.{written-append, written-before, written-self, part-length, written-there, written-over, written-length}
 use borrow.Author.Tests.{eqb-true}
 use lib.Dec.{eqb}

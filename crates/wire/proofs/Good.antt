@@ -3,20 +3,21 @@ use mathlib.Core.Path.{_≡_, refl, sym, ap, _∙_}
 use mathlib.Core.Bool.{Bool, true, false, cond, _&&_, _||_, and-false, or-true}
 use mathlib.Core.List.{List, [], _∷_, _++_, append-assoc, append-nil}
 use mathlib.Core.Option.{Option, none, some}
+use mathlib.Core.Logic.{_⊎_, inl, inr, ⊎-elim}
 use Prim.Native.Nat.{ℕ, zero, suc, _+_, _-_, _*_, _/_, _%_, _<_, _≤_}
 use native.Mathlib.Omega.{arith}
 use lib.ListN.{length, getD, take, drop, replicate, length-append, length-take, length-drop, length-replicate, take-append-drop, drop-of-length-le, List·getD-append}
 use lib.Seq.{take-at, drop-at, take-take, getD-take, getD-drop, length-take-le, drop-drop, take-all, take-add, take-append-seam, drop-append-seam, drop-append-add, drop-append-le, take-append-le, take-length, drop-length}
 use lib.Dec.{eqb, ltb, leb}
 use borrow.Author.Tests.{le-leb, lt-leb, leb-true}
-use Rattle.base.specs.Bytes.{u16At, big16, zeros, same}
-use Rattle.base.specs.Lists.{orElse, joinAll, keep}
+use Rattle.base.specs.Bytes.{Bytes, u16At, big16, zeros, same}
+use Rattle.base.specs.Lists.{orElse, joinAll, keep, In}
 use Rattle.wire.specs.Row.{typeOf, lengthOf, valueOf, padding, sizeOf, heads, consTo, rowOf, row, isRow, tlvs, encode}
 use Rattle.wire.specs.Order.{before, climbs, ascending, good, place, among, without}
 use Rattle.wire.specs.declared.row.Header.{Header}
 use Rattle.wire.specs.Answers.{Size, Tells, Stands}
 use Rattle.base.proofs.Tests.{no-way, and-left, and-right, and-both, and-no, or-left, or-right, by-test}
-use Rattle.base.proofs.Bytes.{u16-drop, u16-take}
+use Rattle.base.proofs.Bytes.{u16-drop, u16-take, bytes-left, bytes-right}
 use Rattle.base.proofs.Lists.{drop-take, part-is}
 use Rattle.base.proofs.Written.{part-length}
 use Rattle.wire.proofs.Ordering.{before-some, before-either, before-trans, before-self, same-self, same-is}
@@ -303,7 +304,7 @@ module _ (f : List ℕ → Bool) where
       rises-tail t [] c = refl
       rises-tail t (u ∷ us) c = and-right (before t u) _ c
 
-  keep-whole : (us : List (List ℕ)) → Wholes us → Wholes (keep f us)
+  pub keep-whole : (us : List (List ℕ)) → Wholes us → Wholes (keep f us)
   keep-whole [] w = tt
   keep-whole (u ∷ us) w = by-test (f u) (λ q. rw q (w .0, keep-whole us (w .1))) (λ q. rw q (keep-whole us (w .1)))
 
@@ -378,3 +379,58 @@ module _ (d t : List ℕ) (at : ℕ) (h : Header) (k : Tells d at h) (a : ascend
         rest = rw e (sym (w ∙ ap (λ (x : List ℕ). take at d ++ x)
             (rw (k .left, without-here t (take (h .next - at) (drop at d)) (tlvs (drop (h .next) d)) b (rw (k .left) at a)) (tlvs-joined (drop (h .next) d) (k .again)))));
       }
+
+-- ---- rows of whole TLVs
+
+pub wholes-append : (ts us : List (List ℕ)) → Wholes ts → Wholes us → Wholes (ts ++ us)
+wholes-append [] us h k = k
+wholes-append (t ∷ ts) us h k = (h .0, wholes-append ts us (h .1) k)
+
+pub tlvs-row : (ts : List (List ℕ)) → Wholes ts → tlvs (joinAll ts) ≡ ts
+unfolding tlvs
+tlvs-row ts w = rw (row-joined ts w)
+
+pub keep-tlvs : (f : List ℕ → Bool) (d : List ℕ) → isRow d ≡ true → tlvs (joinAll (keep f (tlvs d))) ≡ keep f (tlvs d)
+keep-tlvs f d r = tlvs-row (keep f (tlvs d)) (keep-whole f (tlvs d) (tlvs-whole d r))
+
+module _ (t : List ℕ) where
+  pub place-in : (u : List ℕ) (us : List (List ℕ)) → In u (place t us) → (u ≡ t) ⊎ In u us
+  unfolding place
+  place-in u [] m = m
+  place-in u (x ∷ us) m = by-test (before t x) (λ b. rw b at m) (λ b. ⊎-elim (λ e. inr (inl e)) (λ r. ⊎-elim inl (λ k. inr (inr k)) (place-in u us r)) (rw b at m))
+
+  pub in-place : (u : List ℕ) (us : List (List ℕ)) → (u ≡ t) ⊎ In u us → In u (place t us)
+  unfolding place
+  in-place u [] m = m
+  in-place u (x ∷ us) m = by-test (before t x) (λ b. rw b m) (λ b. rw b (⊎-elim (λ e. inr (in-place u us (inl e))) (⊎-elim inl (λ r. inr (in-place u us (inr r)))) m))
+
+  pub among-in : (us : List (List ℕ)) → among t us ≡ true → In t us
+  unfolding among
+  among-in [] e = no-way false e refl
+  among-in (u ∷ us) e = by-test (same t u) (λ b. inl (same-is t u b)) (λ b. inr (among-in us (rw b at e)))
+
+-- a TLV has four bytes at least
+wholes-few : (ts : List (List ℕ)) → Wholes ts → 4 * length ts ≤ length (joinAll ts)
+wholes-few [] w = omega arith
+wholes-few (t ∷ ts) w = omega (arith, heads-four t (w .0 .heads), wholes-few ts (w .1), length-append t (joinAll ts))
+
+pub tlvs-few : (d : List ℕ) → isRow d ≡ true → 4 * length (tlvs d) ≤ length d
+tlvs-few d r = omega (arith, wholes-few (tlvs d) (tlvs-whole d r), ap length (tlvs-joined d r))
+
+-- ---- the TLVs of a row of bytes are bytes
+
+bytes-part : (ts : List (List ℕ)) (t : List ℕ) → Bytes (joinAll ts) → In t ts → Bytes t
+bytes-part [] t h m = absurd m
+bytes-part (u ∷ ts) t h (inl e) = rw e (bytes-left u (joinAll ts) h)
+bytes-part (u ∷ ts) t h (inr m) = bytes-part ts t (bytes-right u (joinAll ts) h) m
+
+none-found : (o : Option (List (List ℕ))) → orElse o false (λ ts. true) ≡ false → orElse o [] (λ ts. ts) ≡ []
+none-found none e = refl
+none-found (some ts) e = no-way true refl e
+
+pub no-tlvs : (s : List ℕ) → isRow s ≡ false → tlvs s ≡ []
+unfolding isRow tlvs
+no-tlvs s r = none-found (row s) r
+
+pub tlvs-bytes : (s t : List ℕ) → Bytes s → In t (tlvs s) → Bytes t
+tlvs-bytes s t h m = by-test (isRow s) (λ r. bytes-part (tlvs s) t (rw (tlvs-joined s r) h) m) (λ r. absurd (rw (no-tlvs s r) at m))

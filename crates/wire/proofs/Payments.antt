@@ -2,29 +2,33 @@
 use mathlib.Core.Path.{_≡_, refl, sym, ap, _∙_, subst}
 use mathlib.Core.Bool.{Bool, true, false, cond, _&&_}
 use mathlib.Core.List.{List, [], _∷_, _++_, append-assoc, append-nil}
-use mathlib.Core.Option.{Option, none, some}
+use mathlib.Core.Option.{Option, none, some, Option·some-injective}
 use Prim.Native.Nat.{ℕ, zero, suc, _+_, _-_, _*_, _/_, _%_, _^_, _≤_, _<_}
 use native.Mathlib.Omega.{arith}
 use lib.ListN.{length, take, drop, replicate, length-append, length-drop, length-replicate, drop-of-length-le}
 use lib.Dec.{ltb, leb}
-use lib.IntN.{ℤ}
-use borrow.Author.Tests.{le-leb, lt-leb, eq-eqb, ne-eqb}
+use lib.IntN.{ℤ, pos, negsuc, _+ℤ_}
+use lib.Signed.{mag}
+use borrow.Author.Tests.{le-leb, lt-leb, eq-eqb, ne-eqb, leb-true}
 use Rattle.wire.specs.declared.row.Header.{Header}
 use Rattle.wire.specs.declared.payment.Paid.{Paid}
 use Rattle.wire.specs.declared.payment.Paid.the-variants.{Readable, Unreadable}
 use Rattle.wire.specs.declared.groups.Groups.{Groups}
 use Rattle.wire.specs.declared.groups.Groups.the-variants.{Value, Bad}
 use Rattle.base.specs.Bytes.{Bytes, big16}
-use Rattle.base.specs.Lists.{orElse}
+use Rattle.base.specs.Lists.{orElse, All}
 use Rattle.base.specs.Memory.{written}
 use Rattle.wire.specs.Row.{encode, padding, tlvs}
 use Rattle.wire.specs.Groups.{Read, groups, readGroups}
-use Rattle.wire.specs.Payment.{Payment, folded, unfolded, paymentValue, paymentTlv, most, ended, readPayment}
+use Rattle.wire.specs.Payment.{Payment, Payable, folded, unfolded, paymentValue, paymentTlv, most, ended, readPayment}
 use Rattle.wire.specs.Answers.{asRead, Inside, asPayment, Tells}
-use Rattle.base.proofs.Tests.{and-no, and-both, by-test}
+use Rattle.base.specs.Signed.{sumℤ}
+use Rattle.base.proofs.Tests.{and-left, and-right, and-no, and-both, by-test}
+use Rattle.base.proofs.Options.{nothing, cond-yes, or-else-some}
+use Rattle.base.proofs.Signed.{mag-add}
 use Rattle.base.proofs.Bytes.{bytes-right}
 use Rattle.wire.proofs.Rows.{tlvs-end}
-use Rattle.wire.proofs.Varints.{got, read-written, read-once, groups-length}
+use Rattle.wire.proofs.Varints.{got, read-written, read-once, read-most, groups-length}
 use Rattle.wire.proofs.Folding.{unfold-fold, fold-unfold}
 use Rattle.base.proofs.Written.{written-three}
 
@@ -92,12 +96,6 @@ ended-well h r a [] e p q = rw (and-both (leb 1 h) (leb h 9999) (le-leb 1 h p) (
 ended-well h r a (b ∷ d) e p q = absurd (omega arith)
 
 -- ---- what is written reads back
-
-pub record Payable (p : Payment) : Type 0 where
-  pub low : 1 ≤ p .household
-  pub high : p .household ≤ 9999
-  pub receipt : p .receipt ≤ most
-  pub amount : folded (p .amount) ≤ most
 
 pub payment-back : (p : Payment) → Payable p → readPayment (paymentValue p) ≡ some p
 unfolding paymentValue
@@ -184,3 +182,46 @@ spelt-all v b (some x) q =
 -- a payment that is read stands there as it is written
 pub payment-once : (v : List ℕ) (p : Payment) → Bytes v → readPayment v ≡ some p → v ≡ paymentValue p
 payment-once v p b e = subst (Spelt v) e (spelt-all v b (readGroups most v) refl)
+
+-- ---- what is read can be written, and is small
+
+ended-payable : (h r a : ℕ) (d : List ℕ) (p : Payment) → r ≤ most → a ≤ most → ended h r a d ≡ some p → Payable p
+unfolding ended
+ended-payable h r a (b ∷ d) p kr ka e = nothing p e
+ended-payable h r a [] p kr ka e =
+    cond-yes (leb 1 h && leb h 9999) (some (record { household = h; receipt = r; amount = unfolded a })) p e
+    (λ b q. subst Payable (Option·some-injective _ _ q)
+    (record {
+      low = leb-true 1 h (and-left (leb 1 h) (leb h 9999) b);
+      high = leb-true h 9999 (and-right (leb 1 h) (leb h 9999) b);
+      receipt = kr;
+      amount = rw (fold-unfold a) ka;
+    }))
+
+-- a payment that is read is one that can be written
+pub read-payable : (v : List ℕ) (p : Payment) → readPayment v ≡ some p → Payable p
+unfolding readPayment
+read-payable v p e =
+    or-else-some (readGroups most v) _ p e
+    (λ h eh kh. or-else-some (readGroups most (h .rest)) _ p kh
+    (λ r er kr. or-else-some (readGroups most (r .rest)) _ p kr
+    (λ a ea ka. ended-payable (h .number) (r .number) (a .number) (a .rest) p (read-most most (h .rest) r er) (read-most most (r .rest) a ea) ka)))
+
+-- an amount has 31 bits and a sign
+abbrev pub amountLimit : ℕ
+amountLimit = 2147483648
+
+folded-mag : (x : ℤ) → folded x ≤ most → mag x < amountLimit
+folded-mag (pos n) h = omega arith
+folded-mag (negsuc n) h = omega arith
+
+pub payable-mag : (p : Payment) → Payable p → mag (p .amount) < amountLimit
+payable-mag p k = folded-mag (p .amount) (k .amount)
+
+-- the size of a sum of k amounts, and of one more
+pub mag-step : (k : ℕ) (a x : ℤ) → mag a ≤ k * amountLimit → mag x < amountLimit → mag (a +ℤ x) ≤ (k + 1) * amountLimit
+mag-step k a x h l = omega (arith, mag-add a x)
+
+pub mag-sum : (xs : List ℤ) → All (λ x. mag x < amountLimit) xs → mag (sumℤ xs) ≤ length xs * amountLimit
+mag-sum [] h = omega arith
+mag-sum (x ∷ xs) h = omega (arith, h .0, mag-sum xs (h .1), mag-add x (sumℤ xs))

@@ -13,6 +13,7 @@ use Rattle.base.specs.Bytes.{Bytes}
 use Rattle.base.specs.Memory.{written}
 use Rattle.wire.specs.Groups.{groupsOf, groups, Read, above, anyGroups, upTo, readGroups}
 use Rattle.base.proofs.Tests.{no-way, by-test, by-order}
+use Rattle.base.proofs.Options.{nothing, cond-yes}
 use Rattle.base.proofs.Lists.{drop-next}
 
 abbrev pub got : ℕ → List ℕ → Option Read
@@ -214,3 +215,14 @@ large-length n h = rw (groups-large n h) (omega arith)
 
 pub small-length : (n : ℕ) → n < 128 → length (groups n) ≡ 1
 small-length n h = rw (groups-small n h)
+
+up-to-most : (most : ℕ) (o : Option Read) (r : Read) → upTo most o ≡ some r → r .number ≤ most
+up-to-most most none r e = nothing r e
+up-to-most most (some q) r e =
+    cond-yes (leb (q .number) most) (some q) r e
+    (λ b p. let z : q ≡ r = cc in rw (← z) (leb-true (q .number) most b))
+
+-- a number that is read is at most what it may be
+pub read-most : (most : ℕ) (s : List ℕ) (r : Read) → readGroups most s ≡ some r → r .number ≤ most
+unfolding readGroups
+read-most most s r e = up-to-most most (anyGroups 0 s) r e

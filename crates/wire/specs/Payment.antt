@@ -2,7 +2,7 @@
 use mathlib.Core.Bool.{Bool, true, false, cond, _&&_}
 use mathlib.Core.List.{List, [], _∷_, _++_}
 use mathlib.Core.Option.{Option, none, some}
-use Prim.Native.Nat.{ℕ, _+_, _*_, _/_, _%_}
+use Prim.Native.Nat.{ℕ, _+_, _*_, _/_, _%_, _≤_}
 use lib.Dec.{eqb, leb}
 use lib.IntN.{ℤ, pos, negsuc}
 use Rattle.base.specs.Lists.{orElse}
@@ -43,3 +43,10 @@ unfoldable pub readPayment : List ℕ → Option Payment
 readPayment s =
     orElse (readGroups most s) none
     (λ h. orElse (readGroups most (h .rest)) none (λ r. orElse (readGroups most (r .rest)) none (λ a. ended (h .number) (r .number) (a .number) (a .rest))))
+
+-- what can be written: every number in its range
+pub record Payable (p : Payment) : Type 0 where
+  pub low : 1 ≤ p .household
+  pub high : p .household ≤ 9999
+  pub receipt : p .receipt ≤ most
+  pub amount : folded (p .amount) ≤ most

@@ -1,0 +1,225 @@
+-- Beginning, resuming, paying and purging keep the invariant. Assumes nothing.
+use mathlib.Core.Path.{_≡_, refl, sym, ap, _∙_, subst}
+use mathlib.Core.Bool.{Bool, true, false, _&&_}
+use mathlib.Core.List.{List, [], _∷_, _++_}
+use mathlib.Core.Option.{Option, none, some}
+use mathlib.Core.Logic.{inl}
+use Prim.Native.Nat.{ℕ, zero, suc, _+_, _≤_, _<_}
+use native.Mathlib.Omega.{arith}
+use lib.ListN.{length, take, drop, length-map}
+use lib.Dec.{eqb, ltb, leb}
+use borrow.Author.Tests.{eq-eqb, ltb-false}
+use Rattle.base.specs.Lists.{joinAll, orElse, isSome, In, All}
+use Rattle.base.specs.Sorted.{Ascending}
+use Rattle.base.proofs.Tests.{and-right}
+use Rattle.base.proofs.Lists.{in-left, in-keep, any-in, in-map, all-in, all-more, all-keep, keep-few}
+use Rattle.base.proofs.Sorted.{find-yes, find-some, keep-ascending, above-all, find-keep}
+use Rattle.wire.specs.Order.{ascending, good, among}
+use Rattle.wire.specs.Row.{tlvs}
+use Rattle.wire.specs.Groups.{readGroups}
+use Rattle.wire.specs.Payment.{Payment, paymentTlv}
+use Rattle.wire.proofs.Good.{good-made}
+use Rattle.model.specs.Figures.{mostNodes, dataLimit, mostAge, lastReading, leastInterval, wide}
+use Rattle.model.specs.Sequence.{circle, advance}
+use Rattle.model.specs.Table.{Entry, idOf, entryOf, underAge, look, put}
+use Rattle.model.specs.Reach.{Vertex, vertices, isNode, level0, levels, met, marked, inReach, reached}
+use Rattle.model.specs.State.{State, withTable, noEntry, ownEntry, ownSeq, ownData, publishAs, publish, withTlv, settle}
+use Rattle.model.specs.Refusals.{Row, late, back, smallTable, noHousehold, paidAlready, full}
+use Rattle.model.specs.Begin.{Done, freshEndpoints, started, begun, blank, refusalBegin, begin}
+use Rattle.model.specs.Snapshot.{Snapshot, reads, consTo, loadEntries, holdsOwn, load, withoutLinks, republished, resumed, noSnapshot, refusalResume, resume}
+use Rattle.model.specs.Pay.{paid, refusalPay, pay, purged, refusalPurge, purge}
+use Rattle.model.specs.Invariant.{EntryFits, EndpointFits, Valid, TableFits, Linked, Midway}
+use Rattle.model.proofs.Snapshots.{load-fits}
+use Rattle.model.specs.Invariant.{SnapshotFits}
+use Rattle.model.proofs.KeptParts.{none-applies, not-late, not-back, found, valid-midway, midway-held, midway-own, look-put, put-fits, publish-kept, advance-fits, fresh-fits, settle-valid}
+use Rattle.base.proofs.Options.{by-cond, by-or-else}
+use Rattle.wire.proofs.Varints.{read-most}
+use Rattle.model.proofs.KeptData.{none-good, none-linked, empty-linked, paid-good, paid-linked}
+
+-- ---- a state that is started: no peers, so no Peer TLV of ours
+
+fresh-all : (now : ℕ) (rs : List ℕ) → All (EndpointFits now) (freshEndpoints now rs)
+fresh-all now [] = tt
+fresh-all now (r ∷ rs) = (record { trickle = fresh-fits now leastInterval r (inl refl); next = omega arith }, fresh-all now rs)
+
+module _ (own now : ℕ) (rs : List ℕ) (t : List Entry) (e : Entry) where
+  started-valid : own < circle → now ≤ lastReading → length rs ≡ 4 → TableFits own now t → look own t ≡ some e → Linked (e .says .nodeData) [] → Valid (started own now rs t)
+  unfolding started ownEntry
+  started-valid o l r h q k =
+      record {
+        inside = record {
+          own = o;
+          table = h;
+          peers = record { few = omega arith; once = tt; all = tt };
+          links = subst (λ (x : Option Entry). Linked (orElse x noEntry (λ f. f) .says .nodeData) []) (sym q) k;
+          endpoints = record { four = length-map rs _ ∙ r; all = fresh-all now rs };
+        };
+        last = l;
+        digest = refl;
+      }
+
+-- ---- beginning
+
+empty-good : good dataLimit [] ≡ true
+unfolding ascending
+empty-good = good-made dataLimit [] tt refl (omega arith)
+
+begun-valid : (own now : ℕ) (rs : List ℕ) → own < circle → now ≤ lastReading → length rs ≡ 4 → Valid (begun own now rs)
+unfolding begun look
+begun-valid own now rs o l r =
+    let q : look own (entryOf own 0 [] 0 now ∷ []) ≡ some (entryOf own 0 [] 0 now) = find-yes idOf own (entryOf own 0 [] 0 now) [] refl in
+    started-valid own now rs (entryOf own 0 [] 0 now ∷ []) (entryOf own 0 [] 0 now) o l r
+    (record {
+      ascending = (tt, tt);
+      held = ap isSome q;
+      nodes = omega arith;
+      entries = (record { node = o; seq = omega arith; fine = empty-good; age = omega arith; since = omega arith }, tt);
+    })
+    q empty-linked
+
+pub blank-valid : Valid blank
+unfolding blank
+blank-valid = begun-valid 0 0 (0 ∷ 0 ∷ 0 ∷ 0 ∷ []) (omega arith) (omega arith) refl
+
+module _ (own now : ℕ) (rs : List ℕ) (table : ℕ) (s : State) where
+  abbrev rowsBegin : List Row
+  rowsBegin = late now ∷ smallTable table ∷ []
+
+  pub begin-valid : own < circle → length rs ≡ 4 → Valid s → Valid (begin own now rs table s .state)
+  unfolding begin
+  begin-valid o r v =
+      by-cond (λ (a : Done). Valid (a .state)) (eqb (refusalBegin now table) 0) (record { number = 0; state = begun own now rs }) _
+      (λ b. begun-valid own now rs o (not-late now (none-applies rowsBegin (omega arith) b .0)) r) (λ b. v)
+
+-- ---- resuming
+
+module _ (now : ℕ) (rs : List ℕ) (b : Snapshot) (f : SnapshotFits now b) where
+  -- our entry as it was saved, and as it is published again
+  abbrev before : Entry
+  before = orElse (look (b .own) (b .entries)) noEntry (λ e. e)
+
+  abbrev again : Entry
+  again = entryOf (b .own) (advance (before .says .seq) 1) (withoutLinks (before .says .nodeData)) 0 now
+
+  before-held : look (b .own) (b .entries) ≡ some before
+  before-held = found (look (b .own) (b .entries)) (f .table .held)
+
+  before-good : good dataLimit (before .says .nodeData) ≡ true
+  unfolding look
+  before-good = all-in (EntryFits now) before (b .entries) (f .table .entries) (find-some idOf (b .own) before (b .entries) before-held .0) .fine
+
+  again-fits : TableFits (b .own) now (put again (b .entries))
+  again-fits =
+      put-fits again (b .entries) (f .table)
+      (record { node = f .own; seq = advance-fits (before .says .seq) 1; fine = none-good (before .says .nodeData) before-good; age = omega arith; since = omega arith })
+      (λ z. let y : _≡_ {A = ℕ} 0 1 = cc before-held in absurd (omega arith))
+
+  resumed-valid : now ≤ lastReading → length rs ≡ 4 → Valid (resumed now rs b)
+  unfolding resumed republished
+  resumed-valid l r =
+      started-valid (b .own) now rs (put again (b .entries)) again (f .own) l r again-fits (look-put again (b .entries)) (none-linked (before .says .nodeData) before-good)
+
+module _ (now : ℕ) (bytes rs : List ℕ) (table : ℕ) (s : State) where
+  abbrev rowsResume : List Row
+  rowsResume = late now ∷ smallTable table ∷ noSnapshot now bytes ∷ []
+
+  pub resume-valid : length rs ≡ 4 → Valid s → Valid (resume now bytes rs table s .state)
+  unfolding resume
+  resume-valid r v =
+      by-cond (λ (a : Done). Valid (a .state)) (eqb (refusalResume now bytes table) 0) _ _
+      (λ b. by-or-else Valid (load now bytes) s (resumed now rs) (λ e. v) (λ k e. resumed-valid now rs k (load-fits now bytes k e) (not-late now (none-applies rowsResume (omega arith) b .0)) r)) (λ b. v)
+
+-- ---- paying
+
+module _ (now : ℕ) (p : Payment) (rs : List ℕ) (s : State) where
+  pub paid-valid : Midway now s → among (paymentTlv p) (tlvs (ownData s)) ≡ false → length (ownData s) + length (paymentTlv p) ≤ dataLimit → now ≤ lastReading → Valid (paid now p rs s)
+  unfolding paid publishAs
+  paid-valid m n room l =
+      let g : good dataLimit (ownData s) ≡ true = midway-own s m .fine in
+      settle-valid now rs (publish now (withTlv (paymentTlv p) (ownData s)) s)
+      (publish-kept (advance (ownSeq s) 1) (withTlv (paymentTlv p) (ownData s)) (s .peers) s m (advance-fits (ownSeq s) 1)
+      (paid-good p (ownData s) (s .peers) (m .links) g n room) (m .peers) (paid-linked p (ownData s) (s .peers) (m .links) g n room)) l
+
+  pub paid-own : paid now p rs s .own ≡ s .own
+  unfolding paid publishAs settle
+  paid-own = refl
+
+module _ (now : ℕ) (p : Payment) (rs : List ℕ) (table : ℕ) (s : State) where
+  abbrev rowsPay : List Row
+  rowsPay = late now ∷ back now s ∷ smallTable table ∷ noHousehold (p .household) ∷ paidAlready p s ∷ full p s ∷ []
+
+  pub pay-valid : Valid s → Valid (pay now p rs table s .state)
+  unfolding pay
+  pay-valid v =
+      by-cond (λ (a : Done). Valid (a .state)) (eqb (refusalPay now p table s) 0) (record { number = 0; state = paid now p rs s }) _
+      (λ b. accepted (none-applies rowsPay (omega arith) b)) (λ b. v)
+    where
+      accepted : All (λ r. r .applies ≡ false) rowsPay → Valid (paid now p rs s)
+      accepted a =
+          paid-valid now p rs s (valid-midway now s v (not-back now s (a .1 .0))) (a .1 .1 .1 .1 .0)
+          (ltb-false dataLimit (length (ownData s) + length (paymentTlv p)) (a .1 .1 .1 .1 .1 .0)) (not-late now (a .0))
+
+  pub pay-own : pay now p rs table s .state .own ≡ s .own
+  unfolding pay
+  pay-own =
+      by-cond (λ (a : Done). a .state .own ≡ s .own) (eqb (refusalPay now p table s) 0) (record { number = 0; state = paid now p rs s }) _ (λ b. paid-own now p rs s) (λ b. refl)
+
+-- ---- purging: our own node is reachable, and so stays
+
+pub own-reached : (own now : ℕ) (t : List Entry) (e : Entry) → In e t → idOf e ≡ own → inReach own now t own ≡ true
+unfolding inReach marked met
+own-reached own now t e m q =
+    any-in (isNode own) v (level0 own (vertices now t) ++ joinAll (levels own (vertices now t)))
+    (in-left v (level0 own (vertices now t)) (joinAll (levels own (vertices now t))) (in-keep (isNode own) v (vertices now t) (in-map _ e t m) b)) b
+  where
+    v : Vertex
+    v = record { says = e .says; young = underAge now e }
+
+    b : isNode own v ≡ true
+    b = eq-eqb (e .says .node) own q
+
+module _ (now : ℕ) (s : State) (m : Midway now s) where
+  abbrev inside : Entry → Bool
+  inside e = inReach (s .own) now (s .table) (idOf e)
+
+  reached-held : look (s .own) (reached (s .own) now (s .table)) ≡ some (ownEntry s)
+  unfolding reached look
+  reached-held =
+      let r : In (ownEntry s) (s .table) × (idOf (ownEntry s) ≡ s .own) = find-some idOf (s .own) (ownEntry s) (s .table) (midway-held s m) in
+      find-keep idOf inside (s .own) (ownEntry s) (s .table) (midway-held s m)
+      (rw (r .1) (own-reached (s .own) now (s .table) (ownEntry s) (r .0) (r .1)))
+
+  pub reached-kept : Midway now (withTable (reached (s .own) now (s .table)) s)
+  unfolding reached ownEntry
+  reached-kept =
+      record {
+        own = m .own;
+        table = record {
+          ascending = keep-ascending idOf inside (s .table) (m .table .ascending);
+          held = ap isSome reached-held;
+          nodes = omega (arith, keep-few inside (s .table), m .table .nodes);
+          entries = all-keep (EntryFits now) inside (s .table) (m .table .entries);
+        };
+        peers = m .peers;
+        links = subst (λ (x : Option Entry). Linked (orElse x noEntry (λ f. f) .says .nodeData) (s .peers)) (sym reached-held) (m .links);
+        endpoints = m .endpoints;
+      }
+
+module _ (now : ℕ) (rs : List ℕ) (table : ℕ) (s : State) where
+  abbrev rowsPurge : List Row
+  rowsPurge = late now ∷ back now s ∷ smallTable table ∷ []
+
+  pub purge-valid : Valid s → Valid (purge now rs table s .state)
+  unfolding purge purged
+  purge-valid v =
+      by-cond (λ (a : Done). Valid (a .state)) (eqb (refusalPurge now table s) 0) (record { number = 0; state = purged now rs s }) _
+      (λ b. accepted (none-applies rowsPurge (omega arith) b)) (λ b. v)
+    where
+      accepted : All (λ r. r .applies ≡ false) rowsPurge → Valid (settle now rs (withTable (reached (s .own) now (s .table)) s))
+      accepted a =
+          settle-valid now rs (withTable (reached (s .own) now (s .table)) s) (reached-kept now s (valid-midway now s v (not-back now s (a .1 .0)))) (not-late now (a .0))
+
+  pub purge-own : purge now rs table s .state .own ≡ s .own
+  unfolding purge purged settle
+  purge-own =
+      by-cond (λ (a : Done). a .state .own ≡ s .own) (eqb (refusalPurge now table s) 0) (record { number = 0; state = purged now rs s }) _ (λ b. refl) (λ b. refl)

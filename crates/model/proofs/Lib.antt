@@ -1,0 +1,21 @@
+-- The proofs of the model's theorems, and the laws that the layers above cite.
+pub mod Cases
+pub mod Circle
+pub mod Merge
+pub mod OneCall
+pub mod Delivery
+pub mod KeptParts
+pub mod KeptData
+pub mod KeptSteps
+pub mod KeptReceive
+pub mod KeptTick
+pub mod Snapshots
+pub mod KeptCalls
+pub mod Kept
+pub mod Totals
+pub mod Served
+pub mod Sent
+pub mod TwoTicks
+pub mod Marked
+pub mod Levels
+pub mod Turns
