@@ -328,27 +328,27 @@ fn output(s: State) -> [u8; 32]
     ]
 }
 
-// The bytes of the first four words.
-fn output16(s: State) -> [u8; 16]
-    ensures { λ r. ⌜ r ≡ take 16 (bytesOf s) ⌝ }
+// The bytes of the first four words of the hash value v.
+fn output16(v: State) -> [u8; 16]
+    ensures { λ r. ⌜ r ≡ take 16 (bytesOf v) ⌝ }
 {
     [
-        (s.a / 16777216 % 256) as u8,
-        (s.a / 65536 % 256) as u8,
-        (s.a / 256 % 256) as u8,
-        (s.a % 256) as u8,
-        (s.b / 16777216 % 256) as u8,
-        (s.b / 65536 % 256) as u8,
-        (s.b / 256 % 256) as u8,
-        (s.b % 256) as u8,
-        (s.c / 16777216 % 256) as u8,
-        (s.c / 65536 % 256) as u8,
-        (s.c / 256 % 256) as u8,
-        (s.c % 256) as u8,
-        (s.d / 16777216 % 256) as u8,
-        (s.d / 65536 % 256) as u8,
-        (s.d / 256 % 256) as u8,
-        (s.d % 256) as u8,
+        (v.a / 16777216 % 256) as u8,
+        (v.a / 65536 % 256) as u8,
+        (v.a / 256 % 256) as u8,
+        (v.a % 256) as u8,
+        (v.b / 16777216 % 256) as u8,
+        (v.b / 65536 % 256) as u8,
+        (v.b / 256 % 256) as u8,
+        (v.b % 256) as u8,
+        (v.c / 16777216 % 256) as u8,
+        (v.c / 65536 % 256) as u8,
+        (v.c / 256 % 256) as u8,
+        (v.c % 256) as u8,
+        (v.d / 16777216 % 256) as u8,
+        (v.d / 65536 % 256) as u8,
+        (v.d / 256 % 256) as u8,
+        (v.d % 256) as u8,
     ]
 }
 

@@ -491,6 +491,12 @@ data-length t m i k p =
     let f : Read t i (rowAt t i) = row-read t i (k .rows) p in
     (part-length m (rowAt t i .slot * dataLimit) (rowAt t i .len) (omega (arith, f .low, f .short, k .room)), f .short)
 
+-- an empty table
+pub none-held : (m : List ℕ) (l : List Row) → tableBytes ≤ length m → length l ≡ mostNodes → Kept (record { count = 0; entries = l }) m × (view (record { count = 0; entries = l }) m ≡ [])
+unfolding view
+none-held m l h n =
+    (record { rows = record { most = omega arith; wide = n; ascending = tt; fit = tt; apart = tt }; room = h; hashed = tt }, refl)
+
 pub begun : (own clock : ℕ) (hash m : List ℕ) (l : List Row) → tableBytes ≤ length m → hash ≡ hash16 [] → length l ≡ 31
     → Kept (record { count = 1; entries = record { id = own; seq = 0; age = 0; since = clock; len = 0; slot = 0; hash = hash } ∷ l }) m
     × (view (record { count = 1; entries = record { id = own; seq = 0; age = 0; since = clock; len = 0; slot = 0; hash = hash } ∷ l }) m ≡ entryOf own 0 [] 0 clock ∷ [])

@@ -5,8 +5,8 @@ use base::memory::store;
 use sha256::hash16;
 ghost use mathlib.Core.Path.{_≡_};
 ghost use mathlib.Core.Bool.{cond};
-ghost use mathlib.Core.List.{_∷_, []};
-ghost use Prim.Native.Nat.{_+_, _-_, _*_, _≤_, _<_};
+ghost use mathlib.Core.List.{List, _∷_, []};
+ghost use Prim.Native.Nat.{ℕ, _+_, _-_, _*_, _≤_, _<_};
 ghost use lib.ListN.{length};
 ghost use Rattle.base.specs.Memory.{spliced, cut};
 ghost use Rattle.model.specs.Figures.{dataLimit, tableBytes, mostAge, lastReading};
@@ -356,6 +356,25 @@ pub fn remove_tlv(
             hash,
         },
     )
+}
+
+// No node at all.
+pub fn empty() -> Table
+    ensures { λ r. ⌜ ((m : List ℕ) → tableBytes ≤ length m → Kept r m × (view r m ≡ [])) ⌝ }
+{
+    let e = Entry {
+        id: 0,
+        seq: 0,
+        age: 0,
+        since: 0,
+        len: 0,
+        slot: 0,
+        hash: [0; 16],
+    };
+    Table {
+        count: 0,
+        entries: [e; 32],
+    }
 }
 
 // One node alone, with no data.

@@ -1,0 +1,123 @@
+-- Steps on the state: from what the parts ensure to the state of the model after the step. Assumes nothing.
+use mathlib.Core.Path.{_≡_, refl, sym, ap, _∙_, subst}
+use mathlib.Core.Bool.{Bool, true}
+use mathlib.Core.List.{List}
+use Prim.Native.Nat.{ℕ, pred, _≤_}
+use native.Mathlib.Omega.{arith}
+use lib.ListN.{length, drop, set, length-drop}
+use Rattle.base.specs.Lists.{joinAll, isSome, keepBy}
+use Rattle.base.specs.Memory.{spliced, cut}
+use Rattle.wire.specs.Row.{tlvs}
+use Rattle.wire.specs.Order.{place}
+use Rattle.model.specs.Figures.{tableBytes}
+use Rattle.model.specs.Table.{Entry, entryOf, look, put}
+use Rattle.model.specs.State.{State as ModelState, Peer as ModelPeer, Endpoint as ModelEndpoint, withTable, withPeers, withEndpoints, withEndpoint, ownData, publishAs, withTlv}
+use Rattle.table.specs.View.{view, dataOf, rowAt, Kept, Stands, Stored, Renumbered, Purged}
+use Rattle.table.specs.declared.Table.{Table}
+use Rattle.node.specs.View.{endpointOf, endpointsOf, peersOf, stateOf, PeersRep, Rep, Held, Moved}
+use Rattle.node.specs.declared.State.{State}
+use Rattle.node.specs.declared.Endpoint.{Endpoint}
+use Rattle.node.specs.declared.peers.Peers.{Peers}
+use Rattle.node.proofs.Parts.{state-own, state-table, state-held, putTable, putPeers, putEndpoints, table-put, peers-put, endpoints-put, endpoint-put, endpoint-rep}
+use Rattle.node.proofs.Own.{own-data}
+
+-- ---- one step, and the next
+
+pub moved-not : (s : State) (m : List ℕ) → Rep s m → Moved (stateOf s m) m s m
+moved-not s m k = record { rep = k; is = refl; size = refl; beyond = refl }
+
+module _ {a : ModelState} {m : List ℕ} {r : State} {m′ : List ℕ} (h : Moved a m r m′) where
+  pub moved-to : {b : ModelState} → a ≡ b → Moved b m r m′
+  moved-to e = record { rep = h .rep; is = h .is ∙ e; size = h .size; beyond = h .beyond }
+
+  pub moved-then : (f : ModelState → ModelState) {q : State} {m″ : List ℕ} → Moved (f (stateOf r m′)) m′ q m″ → Moved (f a) m q m″
+  moved-then f k = record { rep = k .rep; is = k .is ∙ ap f (h .is); size = k .size ∙ h .size; beyond = k .beyond ∙ h .beyond }
+
+  pub moved-held : isSome (look (a .own) (a .table)) ≡ true → Held r m′
+  moved-held p = state-held r m′ (subst (λ (x : ModelState). isSome (look (x .own) (x .table)) ≡ true) (sym (h .is)) p)
+
+-- ---- another part
+
+-- memories that have room for the table and are the same past it are of one length
+same-size : (m m′ : List ℕ) → tableBytes ≤ length m → tableBytes ≤ length m′ → drop tableBytes m′ ≡ drop tableBytes m → length m′ ≡ length m
+same-size m m′ p q e =
+    let l : length (drop tableBytes m′) ≡ length (drop tableBytes m) = ap length e in
+    omega (arith, length-drop tableBytes m, length-drop tableBytes m′)
+
+module _ (s : State) (m : List ℕ) (k : Rep s m) where
+  pub table-moved : (t : Table) (m′ : List ℕ) (es : List Entry) → Kept t m′ → view t m′ ≡ es → drop tableBytes m′ ≡ drop tableBytes m
+      → Moved (withTable es (stateOf s m)) m (putTable t s) m′
+  table-moved t m′ es g v b =
+      record {
+        rep = record { table = g; peers = k .peers; four = k .four; digest = k .digest };
+        is = table-put s m t m′ ∙ ap (λ (z : List Entry). withTable z (stateOf s m)) v;
+        size = same-size m m′ (k .table .room) (g .room) b;
+        beyond = b;
+      }
+
+  pub peers-moved : (p : Peers) (ps : List ModelPeer) → PeersRep p → peersOf p ≡ ps → Moved (withPeers ps (stateOf s m)) m (putPeers p s) m
+  peers-moved p ps g v =
+      record {
+        rep = record { table = k .table; peers = g; four = k .four; digest = k .digest };
+        is = peers-put s m p ∙ ap (λ (z : List ModelPeer). withPeers z (stateOf s m)) v;
+        size = refl;
+        beyond = refl;
+      }
+
+  pub endpoints-moved : (l : List Endpoint) (es : List ModelEndpoint) → length l ≡ 4 → endpointsOf l ≡ es → Moved (withEndpoints es (stateOf s m)) m (putEndpoints l s) m
+  endpoints-moved l es g v =
+      record {
+        rep = record { table = k .table; peers = k .peers; four = g; digest = k .digest };
+        is = endpoints-put s m l ∙ ap (λ (z : List ModelEndpoint). withEndpoints z (stateOf s m)) v;
+        size = refl;
+        beyond = refl;
+      }
+
+  pub endpoint-moved : (n i : ℕ) (e : Endpoint) → pred n ≡ i → Moved (withEndpoint n (endpointOf e) (stateOf s m)) m (putEndpoints (set (s .endpoints) i e) s) m
+  endpoint-moved n i e q = record { rep = endpoint-rep s m i e k; is = endpoint-put s m n i e q; size = refl; beyond = refl }
+
+  -- an entry put in, one renumbered, those without a mark left out
+  module _ (t : Table) where
+    pub stored-moved : (e : Entry) (m′ : List ℕ) (i : ℕ) → Stored e (s .table) m i t m′
+        → Moved (withTable (put e (stateOf s m .table)) (stateOf s m)) m (putTable t s) m′
+    stored-moved e m′ i o =
+        rw (state-table s m) (table-moved t m′ (put e (view (s .table) m)) (o .kept) (o .viewed) (o .beyond))
+
+    pub renumbered-moved : (id seq age since i : ℕ) → Renumbered id seq age since (s .table) i t
+        → Moved (withTable (put (entryOf id seq (dataOf m (rowAt (s .table) i)) age since) (stateOf s m .table)) (stateOf s m)) m (putTable t s) m
+    renumbered-moved id seq age since i o =
+        rw (state-table s m)
+        (table-moved t m (put (entryOf id seq (dataOf m (rowAt (s .table) i)) age since) (view (s .table) m)) (o .kept m (k .table)) (o .viewed m) refl)
+
+    pub purged-moved : (marks : List Bool) → Purged marks (s .table) t → Moved (withTable (keepBy marks (stateOf s m .table)) (stateOf s m)) m (putTable t s) m
+    purged-moved marks o = rw (state-table s m) (table-moved t m (keepBy marks (view (s .table) m)) (o .kept m (k .table)) (o .viewed m) refl)
+
+-- ---- published
+
+module _ (s : State) (m : List ℕ) (i : ℕ) (k : Rep s m) (h : Stands (s .table) (s .own) i) (clock seq : ℕ) (t : Table) where
+  -- our own entry put in is a publishing, its data as the model has them
+  published : (d d′ m′ : List ℕ) → d ≡ d′ → Moved (withTable (put (entryOf (s .own) seq d 0 clock) (stateOf s m .table)) (stateOf s m)) m (putTable t s) m′
+      → Moved (publishAs clock seq d′ (stateOf s m)) m (putTable t s) m′
+  unfolding publishAs
+  published d d′ m′ e o =
+      moved-to o
+      (ap (λ (n : ℕ). withTable (put (entryOf n seq d 0 clock) (stateOf s m .table)) (stateOf s m)) (sym (state-own s m))
+      ∙ ap (λ (z : List ℕ). publishAs clock seq z (stateOf s m)) e)
+
+  pub renumber-moved : Renumbered (s .own) seq 0 clock (s .table) i t → Moved (publishAs clock seq (ownData (stateOf s m)) (stateOf s m)) m (putTable t s) m
+  renumber-moved o = published (dataOf m (rowAt (s .table) i)) (ownData (stateOf s m)) m (sym (own-data s m i k h)) (renumbered-moved s m k t (s .own) seq 0 clock i o)
+
+  pub insert-moved : (m′ : List ℕ) (p : ℕ) (tlv d : List ℕ) → d ≡ dataOf m (rowAt (s .table) i) → spliced d p tlv ≡ joinAll (place tlv (tlvs d))
+      → Stored (entryOf (s .own) seq (spliced (dataOf m (rowAt (s .table) i)) p tlv) 0 clock) (s .table) m i t m′
+      → Moved (publishAs clock seq (withTlv tlv (ownData (stateOf s m))) (stateOf s m)) m (putTable t s) m′
+  unfolding withTlv
+  insert-moved m′ p tlv d q w o =
+      published (spliced (dataOf m (rowAt (s .table) i)) p tlv) (withTlv tlv (ownData (stateOf s m))) m′
+      (ap (λ (z : List ℕ). spliced z p tlv) (sym q) ∙ w ∙ ap (withTlv tlv) (q ∙ sym (own-data s m i k h)))
+      (stored-moved s m k t (entryOf (s .own) seq (spliced (dataOf m (rowAt (s .table) i)) p tlv) 0 clock) m′ i o)
+
+  pub remove-moved : (m′ : List ℕ) (p n : ℕ) → Stored (entryOf (s .own) seq (cut (dataOf m (rowAt (s .table) i)) p n) 0 clock) (s .table) m i t m′
+      → Moved (publishAs clock seq (cut (ownData (stateOf s m)) p n) (stateOf s m)) m (putTable t s) m′
+  remove-moved m′ p n o =
+      published (cut (dataOf m (rowAt (s .table) i)) p n) (cut (ownData (stateOf s m)) p n) m′ (ap (λ (z : List ℕ). cut z p n) (sym (own-data s m i k h)))
+      (stored-moved s m k t (entryOf (s .own) seq (cut (dataOf m (rowAt (s .table) i)) p n) 0 clock) m′ i o)

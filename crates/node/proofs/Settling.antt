@@ -1,0 +1,65 @@
+-- The end of a call: every endpoint reset, and the state settled. Assumes nothing.
+use mathlib.Core.Path.{_≡_, refl, sym, ap, _∙_}
+use mathlib.Core.Bool.{true, false, cond}
+use mathlib.Core.List.{List, [], _∷_}
+use Prim.Native.Nat.{ℕ}
+use lib.ListN.{length, getD}
+use Rattle.base.specs.Bytes.{same}
+use Rattle.model.specs.Digest.{networkDigest}
+use Rattle.model.specs.Trickle.{reset}
+use Rattle.model.specs.State.{withTrickle, resetAll, settle, Endpoint as ModelEndpoint}
+use Rattle.table.specs.View.{view}
+use Rattle.node.specs.View.{endpointOf, endpointsOf, stateOf, Rep, Moved, Settled}
+use Rattle.node.specs.declared.State.{State}
+use Rattle.node.specs.declared.Endpoint.{Endpoint}
+use Rattle.node.proofs.Extra.{four-of}
+use Rattle.node.proofs.Parts.{putEndpoints}
+
+-- ---- reset
+
+abbrev resetOne : ℕ → ℕ → Endpoint → ModelEndpoint
+resetOne now r e = withTrickle (reset now r (endpointOf e .trickle)) (endpointOf e)
+
+pub reset-four : (now : ℕ) (rs : List ℕ) (es : List Endpoint) (d0 d1 d2 d3 : Endpoint) (a b c d : ModelEndpoint) → length rs ≡ 4 → length es ≡ 4
+    → a ≡ resetOne now (getD rs 0 0) (getD es 0 d0) → b ≡ resetOne now (getD rs 1 0) (getD es 1 d1)
+    → c ≡ resetOne now (getD rs 2 0) (getD es 2 d2) → d ≡ resetOne now (getD rs 3 0) (getD es 3 d3)
+    → a ∷ b ∷ c ∷ d ∷ [] ≡ resetAll now rs (endpointsOf es)
+unfolding resetAll
+reset-four now rs es d0 d1 d2 d3 a b c d hr he p q r s =
+    let fours : List Endpoint = getD es 0 d0 ∷ getD es 1 d1 ∷ getD es 2 d2 ∷ getD es 3 d3 ∷ [] in
+    let k : a ∷ b ∷ c ∷ d ∷ [] ≡ resetAll now (getD rs 0 0 ∷ getD rs 1 0 ∷ getD rs 2 0 ∷ getD rs 3 0 ∷ []) (endpointsOf fours) = rw (p, q, r, s) in
+    k ∙ ap (λ (z : List ℕ). resetAll now z (endpointsOf fours)) (sym (four-of rs 0 0 0 0 hr))
+    ∙ ap (λ (z : List Endpoint). resetAll now rs (endpointsOf z)) (sym (four-of es d0 d1 d2 d3 he))
+
+-- ---- settled
+
+-- the state with the reading and the digest at the end of a call
+abbrev pub closed : ℕ → List ℕ → State → State
+closed now d s = record { own = s .own; last = now; table = s .table; peers = s .peers; endpoints = s .endpoints; digest = d }
+
+module _ (now : ℕ) (randoms d : List ℕ) (s r : State) (n : length d ≡ 16) where
+  settles : (es : List Endpoint) → r ≡ putEndpoints es s → (length (s .endpoints) ≡ 4 → length es ≡ 4)
+      → endpointsOf es ≡ cond (same (s .digest) d) (endpointsOf (s .endpoints)) (resetAll now randoms (endpointsOf (s .endpoints)))
+      → Settled now randoms d s (closed now d r)
+  unfolding stateOf settle
+  settles es q f e =
+      rw q
+      (record {
+        rep = λ m k. record { table = k .table; peers = k .peers; four = f (k .four); digest = n };
+        is = λ m w. rw (← w, e);
+      })
+
+  -- the digest is as it was
+  pub settles-same : same (s .digest) d ≡ true → r ≡ s → Settled now randoms d s (closed now d r)
+  settles-same h q = settles (s .endpoints) q (λ k. k) (rw h)
+
+  -- it is another
+  pub settles-new : (es : List Endpoint) → same (s .digest) d ≡ false → length es ≡ 4
+      → endpointsOf es ≡ resetAll now randoms (endpointsOf (s .endpoints)) → r ≡ putEndpoints es s → Settled now randoms d s (closed now d r)
+  settles-new es h l e q = settles es q (λ k. l) (rw h e)
+
+-- a settled state as a step
+pub settled-moved : (now : ℕ) (randoms d : List ℕ) (s r : State) (m : List ℕ) → Settled now randoms d s r → Rep s m
+    → d ≡ networkDigest (s .own) now (view (s .table) m)
+    → Moved (settle now randoms (stateOf s m)) m r m
+settled-moved now randoms d s r m h k e = record { rep = h .rep m k; is = h .is m e; size = refl; beyond = refl }

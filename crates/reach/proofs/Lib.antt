@@ -1,0 +1,6 @@
+pub mod Extra
+pub mod Links
+pub mod Nodes
+pub mod Waves
+pub mod Reaching
+pub mod Digests

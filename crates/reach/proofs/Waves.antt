@@ -1,0 +1,155 @@
+-- The levels round our own node, kept as marks of the table's places. Assumes nothing.
+use mathlib.Core.Path.{_≡_, refl, sym, ap, _∙_}
+use mathlib.Core.Bool.{Bool, true, false, not, _&&_, _||_, or-false, or-assoc}
+use mathlib.Core.List.{List, [], _∷_, _++_, map}
+use Prim.Native.Nat.{ℕ, zero, suc, _+_, _-_, _≤_, _<_}
+use native.Mathlib.Nat.{not-suc-le-zero}
+use native.Mathlib.Omega.{arith}
+use lib.ListN.{length, getD}
+use Rattle.base.specs.Lists.{any, keep, keepBy, joinAll}
+use Rattle.base.proofs.Lists.{keep-length}
+use Rattle.model.specs.Figures.{mostNodes}
+use Rattle.model.specs.Table.{Entry}
+use Rattle.model.specs.Reach.{Vertex, vertices, touched, isNode, nonEmpty, levelsFrom}
+use Rattle.reach.specs.declared.mark.Wave.{Wave}
+use Rattle.reach.specs.Marks.{Wide, markedOf, noVertex, NextLevel, Onward, Spread}
+use Rattle.reach.proofs.Nodes.{vertices-length}
+use Rattle.reach.proofs.Extra.{any-append, keep-never, not-at, any-either, keep-by-none, keep-by-both, keep-by-length}
+
+-- ---- levels
+
+-- no node is joined to an empty level
+touched-none : (v : Vertex) → touched [] v ≡ false
+unfolding touched
+touched-none v = refl
+
+-- no node is joined to the level: it is the last
+levels-stop : (f : ℕ) (rest level : List Vertex) → keep (touched level) rest ≡ [] → levelsFrom f rest level ≡ []
+unfolding levelsFrom
+levels-stop zero rest level e = refl
+levels-stop (suc f) rest level e = rw e
+
+some-more : (l : List Vertex) (m n : List (List Vertex)) → (0 < length l → m ≡ n) → nonEmpty l m ≡ nonEmpty l n
+some-more [] m n h = refl
+some-more (v ∷ l) m n h = ap (λ (k : List (List Vertex)). (v ∷ l) ∷ k) (h (omega arith))
+
+-- more levels than there are nodes left are never needed
+pub levels-enough : (f g : ℕ) (rest level : List Vertex) → length rest ≤ f → length rest ≤ g → levelsFrom f rest level ≡ levelsFrom g rest level
+unfolding levelsFrom
+levels-enough zero zero rest level p q = refl
+levels-enough zero (suc g) [] level p q = refl
+levels-enough zero (suc g) (v ∷ rest) level p q = absurd (not-suc-le-zero p)
+levels-enough (suc f) zero [] level p q = refl
+levels-enough (suc f) zero (v ∷ rest) level p q = absurd (not-suc-le-zero q)
+levels-enough (suc f) (suc g) rest level p q =
+    let l : length (keep (touched level) rest) + length (keep (λ v. not (touched level v)) rest) ≡ length rest = keep-length (touched level) rest in
+    some-more (keep (touched level) rest) _ _
+    (λ h. levels-enough f g (keep (λ v. not (touched level v)) rest) (keep (touched level) rest) (omega arith) (omega arith))
+
+-- the nodes of the next level, and of those after it
+found-more : (n : ℕ) (l : List Vertex) (more : List (List Vertex)) → (l ≡ [] → more ≡ []) → any (isNode n) (joinAll (nonEmpty l more)) ≡ any (isNode n) l || any (isNode n) (joinAll more)
+found-more n [] more h = rw (h refl)
+found-more n (v ∷ l) more h = any-append (isNode n) (v ∷ l) (joinAll more)
+
+found-next : (n f : ℕ) (rest level : List Vertex) → any (isNode n) (joinAll (levelsFrom (suc f) rest level))
+    ≡ any (isNode n) (keep (touched level) rest) || any (isNode n) (joinAll (levelsFrom f (keep (λ v. not (touched level v)) rest) (keep (touched level) rest)))
+unfolding levelsFrom
+found-next n f rest level =
+    found-more n (keep (touched level) rest) (levelsFrom f (keep (λ v. not (touched level v)) rest) (keep (touched level) rest))
+    (λ e. rw e (levels-stop f (keep (λ v. not (touched level v)) rest) [] (keep-never (touched []) (keep (λ v. not (touched level v)) rest) touched-none)))
+
+-- ---- marks
+
+-- n is met, or is in one of the levels after the last, of which there are at most f
+abbrev pub foundFrom : ℕ → List Entry → ℕ → List Bool → List Bool → ℕ → Bool
+foundFrom now t f met level n =
+    any (isNode n) (markedOf now t met) || any (isNode n) (joinAll (levelsFrom f (keepBy (map not met) (vertices now t)) (markedOf now t level)))
+
+unmet : (a b : Bool) → not (a || (not a && b)) ≡ not a && not b
+unmet true b = refl
+unmet false b = refl
+
+module _ (now : ℕ) (t : List Entry) (s : length t ≤ mostNodes) where
+  -- at first
+  found-start : (first : List Bool) (n : ℕ)
+      → any (isNode n) (markedOf now t first ++ joinAll (levelsFrom (length t) (keepBy (map not first) (vertices now t)) (markedOf now t first))) ≡ foundFrom now t mostNodes first first n
+  found-start first n =
+      let l : length (keepBy (map not first) (vertices now t)) ≤ length t = rw (← vertices-length now t) (keep-by-length (map not first) (vertices now t)) in
+      any-append (isNode n) (markedOf now t first) (joinAll (levelsFrom (length t) (keepBy (map not first) (vertices now t)) (markedOf now t first)))
+      ∙ rw (levels-enough (length t) mostNodes (keepBy (map not first) (vertices now t)) (markedOf now t first) l (omega arith))
+
+  -- no level is left
+  found-end : (met level : List Bool) (n : ℕ) → foundFrom now t 0 met level n ≡ any (isNode n) (markedOf now t met)
+  unfolding levelsFrom
+  found-end met level n = or-false (any (isNode n) (markedOf now t met))
+
+  module _ (level met next : List Bool) (w : Wide met) (e : NextLevel now t level met next) where
+    inside : (i : ℕ) → i < length (vertices now t) → i < mostNodes
+    inside i p = omega (arith, vertices-length now t)
+
+    met-at : (i : ℕ) → i < length (vertices now t) → getD (map not met) i false ≡ not (getD met i false)
+    met-at i p = not-at met i (rw w (inside i p))
+
+    next-at : (i : ℕ) → i < length (vertices now t) → getD next i false ≡ not (getD met i false) && touched (markedOf now t level) (getD (vertices now t) i noVertex)
+    next-at i p = e .each i (rw (vertices-length now t) at p)
+
+    next-kept : markedOf now t next ≡ keep (touched (markedOf now t level)) (keepBy (map not met) (vertices now t))
+    next-kept = keep-by-both noVertex (touched (markedOf now t level)) (map not met) next (vertices now t) (λ i p. rw (met-at i p) (next-at i p))
+
+    -- the next level adds nothing
+    found-stop : ((i : ℕ) → i < mostNodes → getD next i false ≡ false) → (f n : ℕ) → foundFrom now t f met level n ≡ any (isNode n) (markedOf now t met)
+    found-stop h f n =
+        let z : markedOf now t next ≡ [] = keep-by-none next (vertices now t) (λ i p. h i (inside i p)) in
+        rw (levels-stop f (keepBy (map not met) (vertices now t)) (markedOf now t level) (sym next-kept ∙ z)) (or-false (any (isNode n) (markedOf now t met)))
+
+    module _ (all : List Bool) (v : Wide all) (o : (i : ℕ) → i < mostNodes → getD all i false ≡ getD met i false || getD next i false) where
+      rest-kept : keepBy (map not all) (vertices now t) ≡ keep (λ v. not (touched (markedOf now t level) v)) (keepBy (map not met) (vertices now t))
+      rest-kept =
+          keep-by-both noVertex (λ v. not (touched (markedOf now t level) v)) (map not met) (map not all) (vertices now t)
+          (λ i p. rw (met-at i p, not-at all i (rw v (inside i p)), o i (inside i p), next-at i p) (unmet (getD met i false) (touched (markedOf now t level) (getD (vertices now t) i noVertex))))
+
+      -- the next level is met, and is the last
+      found-on : (f n : ℕ) → foundFrom now t (suc f) met level n ≡ foundFrom now t f all next n
+      found-on f n =
+          rw (found-next n f (keepBy (map not met) (vertices now t)) (markedOf now t level), ← next-kept, ← rest-kept, any-either (isNode n) met next all (vertices now t) (λ i p. o i (inside i p)))
+          (sym (or-assoc (any (isNode n) (markedOf now t met)) (any (isNode n) (markedOf now t next)) _))
+
+-- ---- the marking so far: k levels are passed, and what is met and what is still to be found are all there is
+
+pub record Waving (now : ℕ) (t : List Entry) (first : List Bool) (k : ℕ) (met level : List Bool) : Type 0 where
+  pub few : k ≤ mostNodes
+  pub wide : Wide met
+  pub all : (n : ℕ) → any (isNode n) (markedOf now t first ++ joinAll (levelsFrom (length t) (keepBy (map not first) (vertices now t)) (markedOf now t first)))
+      ≡ foundFrom now t (mostNodes - k) met level n
+
+module _ (now : ℕ) (t : List Entry) (s : length t ≤ mostNodes) (first : List Bool) where
+  pub wave-start : Wide first → Waving now t first 0 first first
+  wave-start w = record { few = omega arith; wide = w; all = found-start now t s first }
+
+  module _ (k : ℕ) (w : Wave) (next : List Bool) (g : Waving now t first k (w .met) (w .level)) (e : NextLevel now t (w .level) (w .met) next) where
+    pub wave-on : (v : Wave) → k < mostNodes → Onward w next v → Waving now t first (k + 1) (v .met) (v .level)
+    wave-on v p o =
+        let q : mostNodes - k ≡ suc (mostNodes - (k + 1)) = omega arith in
+        record {
+          few = omega arith;
+          wide = o .wide;
+          all = λ n.
+              g .all n ∙ ap (λ (f : ℕ). foundFrom now t f (w .met) (w .level) n) q
+              ∙ found-on now t s (w .level) (w .met) next (g .wide) e (v .met) (o .wide) (o .met) (mostNodes - (k + 1)) n
+              ∙ ap (λ (l : List Bool). foundFrom now t (mostNodes - (k + 1)) (v .met) l n) (sym (o .level));
+        }
+
+    pub wave-stop : ((i : ℕ) → i < mostNodes → getD next i false ≡ false) → Spread now t first (w .met)
+    wave-stop h =
+        record {
+          wide = g .wide;
+          each = λ n. sym (g .all n ∙ found-stop now t s (w .level) (w .met) next (g .wide) e h (mostNodes - k) n);
+        }
+
+  pub wave-end : (k : ℕ) (w : Wave) → Waving now t first k (w .met) (w .level) → mostNodes ≤ k → Spread now t first (w .met)
+  wave-end k w g p =
+      let q : mostNodes - k ≡ 0 = omega arith in
+      record {
+        wide = g .wide;
+        each = λ n. sym (g .all n ∙ ap (λ (f : ℕ). foundFrom now t f (w .met) (w .level) n) q ∙ found-end now t s (w .met) (w .level) n);
+      }
