@@ -1,0 +1,2 @@
+-- The laws of the TLVs that we send.
+pub mod Filled

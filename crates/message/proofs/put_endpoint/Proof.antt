@@ -1,0 +1,47 @@
+use borrow.Author.Needs.{needs}
+use Rattle.message.proofs.Filled.{endpoint-filled}
+use Rattle.message.proofs.put_endpoint.Statement.{statement}
+use Rattle.message.proofs.put_endpoint.Tie as tie
+
+put-u16-requires : tie.Need-put-u16-requires
+put-u16-requires c κs = search needs
+
+add-put-u16 : tie.Need-add-put-u16
+add-put-u16 c = search needs
+
+put-u16-requires-2 : tie.Need-put-u16-requires-2
+put-u16-requires-2 c κs = search needs
+
+add-put-u32 : tie.Need-add-put-u32
+add-put-u32 c = search needs
+
+put-u32-requires : tie.Need-put-u32-requires
+put-u32-requires c κs = search needs
+
+add-put-u32-2 : tie.Need-add-put-u32-2
+add-put-u32-2 c = search needs
+
+put-u32-requires-2 : tie.Need-put-u32-requires-2
+put-u32-requires-2 c κs = search needs
+
+same-length : tie.Need-same-length
+same-length c = search needs
+
+returns : tie.Need-returns
+returns c =
+    let a = c .before .before .before .before .before .before .before .before .before .before .before .before .before .before .before .before .before .args in
+    endpoint-filled (a .room .now) _ _ _ _ (a .at) (a .own) (a .endpoint) (c .before .before .before .before .before .before .before .before .before .before .before .before .before .before .before .before .before .pre) (c .before .before .before .before .before .before .before .before .before .before .before .before .before .before .put-u16 .ensures) (c .before .before .before .before .before .before .before .before .before .before .put-u162 .ensures) (c .before .before .before .before .before .before .put-u32 .ensures) (c .before .before .put-u322 .ensures)
+
+pub put-endpoint-spec : {M : Type 1} → statement M
+put-endpoint-spec =
+    tie.close
+    (tie.spec
+    put-u16-requires
+    add-put-u16
+    put-u16-requires-2
+    add-put-u32
+    put-u32-requires
+    add-put-u32-2
+    put-u32-requires-2
+    same-length
+    returns)

@@ -1,0 +1,75 @@
+use borrow.Author.Needs.{needs}
+use Rattle.message.proofs.Filled.{front-filled}
+use Rattle.message.proofs.state_front.Statement.{statement}
+use Rattle.message.proofs.state_front.Tie as tie
+
+slice-aggregate-put-u16 : tie.Need-slice-aggregate-put-u16
+slice-aggregate-put-u16 c = search needs
+
+put-u16-requires : tie.Need-put-u16-requires
+put-u16-requires c κs = search needs
+
+slice-aggregate-put-u16-2 : tie.Need-slice-aggregate-put-u16-2
+slice-aggregate-put-u16-2 c = search needs
+
+add-put-u16 : tie.Need-add-put-u16
+add-put-u16 c = search needs
+
+cast-put-u16 : tie.Need-cast-put-u16
+cast-put-u16 c = search needs
+
+put-u16-requires-2 : tie.Need-put-u16-requires-2
+put-u16-requires-2 c κs = search needs
+
+slice-aggregate-put-u32 : tie.Need-slice-aggregate-put-u32
+slice-aggregate-put-u32 c = search needs
+
+put-u32-requires : tie.Need-put-u32-requires
+put-u32-requires c κs = search needs
+
+slice-aggregate-put-u32-2 : tie.Need-slice-aggregate-put-u32-2
+slice-aggregate-put-u32-2 c = search needs
+
+put-u32-requires-2 : tie.Need-put-u32-requires-2
+put-u32-requires-2 c κs = search needs
+
+slice-aggregate-put-u32-3 : tie.Need-slice-aggregate-put-u32-3
+slice-aggregate-put-u32-3 c = search needs
+
+put-u32-requires-3 : tie.Need-put-u32-requires-3
+put-u32-requires-3 c κs = search needs
+
+slice-aggregate-store : tie.Need-slice-aggregate-store
+slice-aggregate-store c = search needs
+
+slice-aggregate-store-2 : tie.Need-slice-aggregate-store-2
+slice-aggregate-store-2 c = search needs
+
+store-requires : tie.Need-store-requires
+store-requires c κs = search needs
+
+returns : tie.Need-returns
+returns c =
+    let a = c .before .before .before .before .before .before .before .before .before .before .before .before .before .before .before .before .before .before .before .args in
+    front-filled _ _ _ _ _ _ (a .t4) (a .node) (a .seq) (a .age) (a .len) (c .before .before .before .before .before .before .before .before .before .before .before .before .before .before .before .before .before .before .before .pre .0) (c .before .before .before .before .before .before .before .before .before .before .before .before .before .before .before .before .before .put-u16 .ensures) (c .before .before .before .before .before .before .before .before .before .before .before .before .before .before .put-u162 .ensures) (c .before .before .before .before .before .before .before .before .before .before .before .put-u32 .ensures) (c .before .before .before .before .before .before .before .before .put-u322 .ensures) (c .before .before .before .before .before .put-u323 .ensures) (c .before .store .ensures)
+
+pub state-front-spec : {M : Type 1} → statement M
+state-front-spec =
+    tie.close
+    (tie.spec
+    slice-aggregate-put-u16
+    put-u16-requires
+    slice-aggregate-put-u16-2
+    add-put-u16
+    cast-put-u16
+    put-u16-requires-2
+    slice-aggregate-put-u32
+    put-u32-requires
+    slice-aggregate-put-u32-2
+    put-u32-requires-2
+    slice-aggregate-put-u32-3
+    put-u32-requires-3
+    slice-aggregate-store
+    slice-aggregate-store-2
+    store-requires
+    returns)

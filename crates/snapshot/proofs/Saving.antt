@@ -1,0 +1,123 @@
+-- Saving: a row of the table as the entry that it shows, and the snapshot piece by piece. Assumes nothing.
+use mathlib.Core.Path.{_≡_, refl, sym, ap, _∙_, subst}
+use mathlib.Core.List.{List, _++_}
+use Prim.Native.Nat.{ℕ, _+_, _-_, _*_, _≤_, _<_, min}
+use native.Mathlib.Omega.{arith}
+use lib.ListN.{length, take, getD, length-append}
+use lib.Seq.{take-all}
+use Rattle.base.specs.Memory.{written}
+use Rattle.base.proofs.Places.{all-at, getD-any}
+use Rattle.base.proofs.Written.{written-none, written-length, written-more, written-three}
+use Rattle.wire.specs.Groups.{groups}
+use Rattle.model.specs.Figures.{mostAge, snapshotBytes}
+use Rattle.model.specs.Sequence.{circle}
+use Rattle.model.specs.Table.{Entry}
+use Rattle.model.specs.State.{noEntry}
+use Rattle.model.specs.Invariant.{EntryFits, TableFits}
+use Rattle.model.specs.Snapshot.{saveEntry, saved}
+use Rattle.model.proofs.Snapshots.{savedHead, savedEntries, entryBytes, headBytes, saved-is, entries-next, entry-put, entry-end, head-short, entry-short, save-short}
+use Rattle.table.specs.declared.Table.{Table}
+use Rattle.table.specs.declared.Entry.{Entry as Row}
+use Rattle.table.specs.View.{blank, rowAt, dataOf, seen, view, Kept, Read}
+use Rattle.table.proofs.Rows.{view-length, view-at, data-length}
+use Rattle.snapshot.specs.Answers.{SavedTo}
+
+-- the row r at place i of the table
+module _ (t : Table) (m : List ℕ) (i : ℕ) (r : Row) (k : Kept t m) (p : i < t .count) (o : Read t i r) where
+  entry-seen : getD (view t m) i noEntry ≡ seen m r
+  entry-seen = getD-any (view t m) i noEntry (seen m blank) (rw (view-length t (k .rows) m) p) ∙ view-at t (k .rows) m i p ∙ ap (seen m) (sym (o .same))
+
+  pub row-fits : (own clock : ℕ) → TableFits own clock (view t m) → EntryFits clock (seen m r)
+  row-fits own clock f = subst (EntryFits clock) entry-seen (all-at (EntryFits clock) noEntry (view t m) i (f .entries) (rw (view-length t (k .rows) m) p))
+
+  data-is : (d : List ℕ) → d ≡ dataOf m (rowAt t i) → d ≡ dataOf m r
+  data-is d e = e ∙ ap (dataOf m) (sym (o .same))
+
+  pub data-size : (d : List ℕ) → d ≡ dataOf m (rowAt t i) → length d ≡ r .len
+  data-size d e = ap length e ∙ data-length t m i k p .0 ∙ sym (o .long)
+
+  -- what the code writes of it, and where it ends
+  module _ (clock at : ℕ) (d d1 d2 d3 d4 d5 bytes : List ℕ) (a1 a2 a3 a4 age cap : ℕ)
+      (e1 : d1 ≡ written d at (groups (r .id))) (q1 : a1 ≡ at + length (groups (r .id)))
+      (e2 : d2 ≡ written d1 a1 (groups (r .seq))) (q2 : a2 ≡ a1 + length (groups (r .seq)))
+      (old : age ≡ r .age + (clock - r .since)) (most : cap ≡ min age mostAge)
+      (e3 : d3 ≡ written d2 a2 (groups cap)) (q3 : a3 ≡ a2 + length (groups cap))
+      (e4 : d4 ≡ written d3 a3 (groups (r .len))) (q4 : a4 ≡ a3 + length (groups (r .len)))
+      (there : bytes ≡ dataOf m (rowAt t i)) (e5 : d5 ≡ written d4 a4 bytes) (fits : a4 + length bytes ≤ length d) where
+    capped-age : cap ≡ min (r .age + (clock - r .since)) mostAge
+    capped-age = most ∙ ap (λ (n : ℕ). min n mostAge) old
+
+    size-is : r .len ≡ length (dataOf m r)
+    size-is = sym (data-size bytes there) ∙ ap length (data-is bytes there)
+
+    row-put : d5 ≡ written d at (saveEntry clock (seen m r))
+    row-put =
+        entry-put d at clock (seen m r) d1 d2 d3 d4 d5 a1 a2 a3 a4 e1 q1 e2 q2 (rw capped-age at e3) (rw capped-age at q3) (rw size-is at e4) (rw size-is at q4)
+        (rw (data-is bytes there) at e5) (rw (data-is bytes there) at fits)
+
+    row-end : a4 + length bytes ≡ at + length (saveEntry clock (seen m r))
+    row-end =
+        rw (data-is bytes there)
+        (entry-end d at clock (seen m r) d1 d2 d3 d4 d5 a1 a2 a3 a4 e1 q1 e2 q2 (rw capped-age at e3) (rw capped-age at q3) (rw size-is at e4) (rw size-is at q4)
+        (rw (data-is bytes there) at e5) (rw (data-is bytes there) at fits))
+
+    pub row-saved : (d5 ≡ written d at (saveEntry clock (getD (view t m) i noEntry))) × (a4 + length bytes ≡ at + length (saveEntry clock (getD (view t m) i noEntry)))
+    row-saved = rw entry-seen (row-put, row-end)
+
+-- ---- the snapshot, entry by entry
+
+-- the first i entries of the table are written to d from place at on, and d′ and a are the room then and the place behind them
+pub record Through (now : ℕ) (t : List Entry) (d : List ℕ) (at : ℕ) (d′ : List ℕ) (a i : ℕ) : Type 0 where
+  pub part : i ≤ length t
+  pub front : d′ ≡ written d at (savedEntries now (take i t))
+  pub place : a ≡ at + length (savedEntries now (take i t))
+  pub size : length d′ ≡ length d
+
+module _ (own now : ℕ) (t : List Entry) (fits : TableFits own now t) (d : List ℕ) (at : ℕ) where
+  pub through-start : Through now t d at d at 0
+  through-start = record { part = omega arith; front = sym (written-none d at); place = omega arith; size = refl }
+
+  module _ (low : at ≤ headBytes) (room : snapshotBytes ≤ length d) (d′ : List ℕ) (a i : ℕ) (h : Through now t d at d′ a i) where
+    -- room for one more, which goes in behind
+    pub through-room : i < length t → a + entryBytes ≤ length d′
+    through-room p = omega (arith, h .place, h .size, fits .nodes, save-short now now t i (fits .entries) (h .part))
+
+    module _ (d″ : List ℕ) (b : ℕ) (p : i < length t) (e : d″ ≡ written d′ a (saveEntry now (getD t i noEntry))) (q : b ≡ a + length (saveEntry now (getD t i noEntry))) where
+      short : a + length (saveEntry now (getD t i noEntry)) ≤ length d′
+      short = omega (arith, through-room p, entry-short now now (getD t i noEntry) (all-at (EntryFits now) noEntry t i (fits .entries) p))
+
+      pub through-next : Through now t d at d″ b (i + 1)
+      through-next =
+          let n : savedEntries now (take (i + 1) t) ≡ savedEntries now (take i t) ++ saveEntry now (getD t i noEntry) = entries-next now t i noEntry p in
+          let l = length-append (savedEntries now (take i t)) (saveEntry now (getD t i noEntry)) in
+          record {
+            part = omega arith;
+            front = rw n (written-more d at (savedEntries now (take i t)) (saveEntry now (getD t i noEntry)) d′ d″ a (h .front) (h .place) e (omega (arith, short, h .size)));
+            place = rw n (omega (arith, h .place));
+            size = ap length e ∙ written-length d′ (saveEntry now (getD t i noEntry)) a short ∙ h .size;
+          }
+
+-- the numbers before the entries
+module _ (own n : ℕ) (d d1 d2 d3 : List ℕ) (a1 a2 a3 : ℕ)
+    (e1 : d1 ≡ written d 0 (groups 1)) (q1 : a1 ≡ 0 + length (groups 1))
+    (e2 : d2 ≡ written d1 a1 (groups own)) (q2 : a2 ≡ a1 + length (groups own))
+    (e3 : d3 ≡ written d2 a2 (groups n)) (q3 : a3 ≡ a2 + length (groups n)) where
+  pub head-end : a3 ≡ length (savedHead own n)
+  head-end = simp length-append (omega arith)
+
+  pub head-put : a3 ≤ length d → d3 ≡ written d 0 (savedHead own n)
+  head-put h = written-three d 0 (groups 1) (groups own) (groups n) d1 d2 d3 a1 a2 e1 q1 e2 q2 e3 (omega arith)
+
+-- all of it
+pub all-saved : (own now : ℕ) (t : List Entry) (d d3 d4 : List ℕ) (at a i : ℕ) → TableFits own now t → own < circle → snapshotBytes ≤ length d
+    → d3 ≡ written d 0 (savedHead own (length t)) → at ≡ length (savedHead own (length t)) → Through now t d3 at d4 a i → length t ≤ i → SavedTo (saved own now t) d d4 a
+all-saved own now t d d3 d4 at a i fits o room e q h p =
+    let w : take i t ≡ t = take-all i t p in
+    let front : d4 ≡ written d3 at (savedEntries now t) = rw w at (h .front) in
+    let place : a ≡ at + length (savedEntries now t) = rw w at (h .place) in
+    let short : length (savedEntries now (take i t)) ≤ entryBytes * i = save-short now now t i (fits .entries) (h .part) in
+    let l = length-append (savedHead own (length t)) (savedEntries now t) in
+    record {
+      front = rw (saved-is own now t) (written-more d 0 (savedHead own (length t)) (savedEntries now t) d3 d4 at e (omega arith) front (omega (arith, rw w at short, h .part, fits .nodes, head-short own (length t) o (fits .nodes))));
+      size = rw (saved-is own now t) (omega arith);
+    }

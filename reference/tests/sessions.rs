@@ -1,0 +1,138 @@
+//! Made-up sessions: what holds at every moment of them.
+
+use reference::generate;
+use reference::node::{
+    Node, CLOCK_MAX, INTERVAL_MAX, INTERVAL_MIN, MAX_NODES, MAX_PEERS, REPLY_ROOM, TABLE_ROOM,
+};
+use reference::random::Random;
+use reference::script::Session;
+use reference::wire;
+
+/// What every call keeps.
+fn check_state(node: &Node) {
+    assert!(node.last <= CLOCK_MAX);
+    assert!(node.table.len() <= MAX_NODES);
+    assert!(node
+        .table
+        .windows(2)
+        .all(|pair| pair[0].node < pair[1].node));
+    for entry in &node.table {
+        assert!(wire::good(entry.data()));
+        assert_eq!(*entry.digest(), reference::sha256::digest(entry.data()));
+        assert!(entry.since <= node.last);
+    }
+    check_peers(node);
+    for (trickle, next_request) in node.trickle.iter().zip(node.next_request) {
+        assert!(trickle.start <= node.last);
+        assert!((0..=7).any(|doublings| trickle.interval == INTERVAL_MIN << doublings));
+        assert!(trickle.interval <= INTERVAL_MAX);
+        assert!(trickle.interval / 2 <= trickle.point && trickle.point < trickle.interval);
+        assert!(next_request == 0 || next_request <= node.last + INTERVAL_MIN);
+    }
+    assert_eq!(node.digest, node.network_digest(node.last));
+}
+
+/// The type 8 TLVs of our data are exactly those of our peers.
+fn check_peers(node: &Node) {
+    assert!(node.peers.len() <= MAX_PEERS);
+    let mut tlvs: Vec<Vec<u8>> = Vec::new();
+    for peer in &node.peers {
+        assert!(peer.node != node.own && (1..=4).contains(&peer.ours) && peer.contact <= node.last);
+        tlvs.push(wire::peer_tlv(peer.node, peer.theirs, peer.ours));
+    }
+    tlvs.sort();
+    let published: Vec<Vec<u8>> = wire::tlvs_of(node.own_entry().data())
+        .iter()
+        .filter(|tlv| tlv.kind == wire::PEER)
+        .map(|tlv| tlv.whole.to_vec())
+        .collect();
+    assert_eq!(published, tlvs);
+}
+
+/// Refused calls and calls that only show leave the state; the others keep its rules.
+#[test]
+fn state_rules() {
+    for seed in 100..108 {
+        let mut session = Session::default();
+        for line in generate::script(seed, 3_000).lines() {
+            let before = session.node.clone();
+            let answer = session.run_line(line);
+            let words: Vec<&str> = answer.split_whitespace().collect();
+            let shows = ["total", "sum", "marks", "save", "show", "state", "bad"];
+            let changes = !words.is_empty() && words[1] == "0" && !shows.contains(&words[0]);
+            if changes {
+                check_state(&session.node);
+            } else {
+                assert_eq!(session.node, before, "{line}");
+            }
+        }
+    }
+}
+
+#[test]
+fn blank_state_keeps_the_rules() {
+    check_state(&Node::blank());
+}
+
+/// The same seed gives the same script, of the number of calls that was asked for.
+#[test]
+fn scripts_are_reproducible() {
+    let script = generate::script(9, 500);
+    assert_eq!(script, generate::script(9, 500));
+    assert_ne!(script, generate::script(10, 500));
+    let calls = script
+        .lines()
+        .filter(|line| reference::script::parse(line).is_some())
+        .filter(|line| *line != "state" && !line.starts_with("rooms "))
+        .count();
+    assert_eq!(calls, 500);
+}
+
+/// After two ticks at one reading nothing further is due on that endpoint.
+#[test]
+fn two_ticks_then_nothing() {
+    let mut random = Random::new(55);
+    let mut session = Session::default();
+    let mut checks = 0;
+    for line in generate::script(55, 12_000).lines() {
+        session.run_line(line);
+        let mut node = session.node.clone();
+        let leap = random.pick(&[0, 1, 100, 200, 400, 1_000, 42_000, 1 << 32, 1 << 50]);
+        let clock = (node.last + leap).min(CLOCK_MAX);
+        let endpoint = random.range(1, 4) as u32;
+        let mut tick = |node: &mut Node| {
+            let answer = node.tick(TABLE_ROOM, REPLY_ROOM, clock, endpoint, &random.randoms());
+            assert_eq!(answer.refusal, 0);
+            answer.bytes
+        };
+        let first = tick(&mut node);
+        let second = tick(&mut node);
+        assert!(
+            first.is_empty() || second.is_empty(),
+            "at most one of the two sends"
+        );
+        let settled = node.clone();
+        assert!(tick(&mut node).is_empty());
+        assert_eq!(node, settled);
+        checks += 1;
+    }
+    assert!(checks > 12_000);
+}
+
+/// The sum over all households is the sum of the totals, with one count for all.
+#[test]
+fn totals_add_up() {
+    let mut session = Session::default();
+    for line in generate::script(66, 2_000).lines() {
+        session.run_line(line);
+        let node = &session.node;
+        let sum = node.sum(TABLE_ROOM, node.last);
+        let mut added = 0;
+        for household in [1, 2, 17, 128, 300, 9_999] {
+            let total = node.total(TABLE_ROOM, node.last, household);
+            assert_eq!(total.unreadable, sum.unreadable);
+            added += total.value;
+        }
+        assert_eq!(added, sum.value);
+    }
+}
