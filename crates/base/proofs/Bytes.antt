@@ -92,3 +92,14 @@ byte-at (b ∷ s) (suc i) h = byte-at s i (h .1)
 
 pub u32-small : (s : List ℕ) (i : ℕ) → Bytes s → u32At s i < 4294967296
 u32-small s i h = omega (arith, byte-at s i h, byte-at s (i + 1) h, byte-at s (i + 2) h, byte-at s (i + 3) h)
+
+-- a number in a part
+pub u32-part : (s : List ℕ) (n a i : ℕ) → i + 4 ≤ n → u32At (take n (drop a s)) i ≡ u32At s (a + i)
+u32-part s n a i h =
+    let e1 : a + (i + 1) ≡ a + i + 1 = omega arith in
+    let e2 : a + (i + 2) ≡ a + i + 2 = omega arith in
+    let e3 : a + (i + 3) ≡ a + i + 3 = omega arith in
+    rw (at i (omega arith), at (i + 1) (omega arith), at (i + 2) (omega arith), at (i + 3) (omega arith), e1, e2, e3)
+  where
+    at : (k : ℕ) → k < n → getD (take n (drop a s)) k 0 ≡ getD s (a + k) 0
+    at k p = getD-take n (drop a s) k 0 p ∙ getD-drop a s k 0

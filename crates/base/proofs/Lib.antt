@@ -7,3 +7,4 @@ pub mod Written
 pub mod Sorted
 pub mod Signed
 pub mod Places
+pub mod Marks

@@ -1,6 +1,6 @@
 -- Laws of lists: places, membership, and what the tests keep. Assumes nothing.
 use mathlib.Core.Path.{_≡_, refl, sym, ap, _∙_, subst}
-use mathlib.Core.Bool.{Bool, true, false, not, cond}
+use mathlib.Core.Bool.{Bool, true, false, not, cond, _&&_, _||_}
 use mathlib.Core.List.{List, [], _∷_, _++_, map, append-assoc, append-nil}
 use mathlib.Core.Logic.{_⊎_, inl, inr, ⊎-elim}
 use Prim.Native.Nat.{ℕ, zero, suc, _+_, _-_, _≤_, _<_}
@@ -149,6 +149,32 @@ module _ {A : Type 0} (f : A → Bool) where
 
   pub not-any : (a : A) (xs : List A) → any f xs ≡ false → In a xs → f a ≡ false
   not-any a xs p m = by-test (f a) (λ b. no-way (any f xs) (any-in f a xs m b) p) (λ b. b)
+
+module _ {A : Type 0} where
+  -- a search among what is kept and mapped is one among all
+  pub any-kept : {B : Type 0} (f : B → Bool) (g : A → B) (p : A → Bool) (l : List A) → any f (map g (keep p l)) ≡ any (λ x. p x && f (g x)) l
+  any-kept f g p [] = refl
+  any-kept f g p (x ∷ l) =
+      let h : any f (map g (keep p l)) ≡ any (λ x. p x && f (g x)) l = any-kept f g p l in
+      by-test (p x) (λ b. rw (b, h)) (λ b. rw (b, h))
+
+  -- tests that agree find the same
+  pub any-same : (f g : A → Bool) (l : List A) → ((x : A) → f x ≡ g x) → any f l ≡ any g l
+  any-same f g [] h = refl
+  any-same f g (x ∷ l) h = rw (h x, any-same f g l h)
+
+  -- a test that never holds finds nothing, and keeps nothing
+  pub any-never : (f : A → Bool) (l : List A) → ((x : A) → f x ≡ false) → any f l ≡ false
+  any-never f [] h = refl
+  any-never f (x ∷ l) h = rw (h x, any-never f l h)
+
+  pub keep-never : (f : A → Bool) (l : List A) → ((x : A) → f x ≡ false) → keep f l ≡ []
+  keep-never f [] h = refl
+  keep-never f (x ∷ l) h = rw (h x, keep-never f l h)
+
+  pub any-joined : (f : A → Bool) (k l : List A) → any f (k ++ l) ≡ any f k || any f l
+  any-joined f [] l = refl
+  any-joined f (x ∷ k) l = let h : any f (k ++ l) ≡ any f k || any f l = any-joined f k l in by-test (f x) (λ b. rw b) (λ b. rw (b, h))
 
 -- ---- something of every element
 

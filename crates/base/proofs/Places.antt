@@ -6,7 +6,7 @@ use mathlib.Core.Option.{Option, none, some}
 use Prim.Native.Nat.{ℕ, zero, suc, _+_, _-_, _≤_, _<_, zero-le, suc-le-suc}
 use native.Mathlib.Nat.{not-suc-le-zero, le-of-suc-le-suc}
 use native.Mathlib.Omega.{arith}
-use lib.ListN.{length, getD, take, drop, set, length-take, length-drop, length-append, take-append-drop}
+use lib.ListN.{length, getD, take, drop, set, length-take, length-drop, length-append, take-append-drop, drop-of-length-le}
 use lib.Seq.{getD-take, getD-drop, getD-append-add, getD-at, drop-cons, set-at, take-suc, append-snoc, take-at, length-take-le}
 use lib.Dec.{eqb}
 use native.Mathlib.Numerals.{add-one}
@@ -18,7 +18,7 @@ use Rattle.base.specs.Sorted.{find, insert, Above, Ascending}
 use Rattle.base.proofs.Sorted.{insert-lt, insert-eq, insert-gt, find-yes, find-no}
 
 module _ {A : Type 0} (key : A → ℕ) (d : A) where
-  above-at : (n : ℕ) (xs : List A) (i : ℕ) → Above key n xs → i < length xs → n < key (getD xs i d)
+  pub above-at : (n : ℕ) (xs : List A) (i : ℕ) → Above key n xs → i < length xs → n < key (getD xs i d)
   above-at n [] i h l = absurd (not-suc-le-zero l)
   above-at n (x ∷ xs) zero h l = h .0
   above-at n (x ∷ xs) (suc i) h l = above-at n xs i (h .1) (le-of-suc-le-suc l)
@@ -121,3 +121,16 @@ pigeons (suc n) xs f =
     let l : length xs ≡ suc (length (without n xs)) = without-length n xs (f n (omega arith)) in
     let r : n ≤ length (without n xs) = pigeons n (without n xs) (λ u p. without-in n u xs (omega arith) (f u (omega arith))) in
     omega arith
+
+-- ---- stores and elements
+
+pub map-set : {A B : Type 0} (g : A → B) (l : List A) (i : ℕ) (a : A) → map g (set l i a) ≡ set (map g l) i (g a)
+map-set g [] i a = refl
+map-set g (x ∷ l) zero a = refl
+map-set {B = B} g (x ∷ l) (suc i) a = ap (λ (r : List B). g x ∷ r) (map-set g l i a)
+
+-- a list of four is its elements
+pub four-of : {A : Type 0} (l : List A) (a b c d : A) → length l ≡ 4 → l ≡ getD l 0 a ∷ getD l 1 b ∷ getD l 2 c ∷ getD l 3 d ∷ []
+four-of l a b c d h =
+    drop-cons l 0 a (omega arith)
+    ∙ rw (drop-cons l 1 b (omega arith), drop-cons l 2 c (omega arith), drop-cons l 3 d (omega arith), drop-of-length-le l {i = 4} (omega arith))

@@ -310,3 +310,9 @@ module _ {A : Type 0} (key : A → ℕ) where
       tail : key x < key a → (b ≡ x) ⊎ In b xs → In b xs
       tail gt (inl q) = let k : key b ≡ key x = ap key q in absurd (omega arith)
       tail gt (inr r) = r
+
+-- above every key it goes in at the end
+pub insert-last : {A : Type 0} (key : A → ℕ) (a : A) (xs : List A) → All (λ x. key x < key a) xs → insert key a xs ≡ xs ++ (a ∷ [])
+unfolding insert
+insert-last key a [] h = refl
+insert-last key a (x ∷ xs) h = insert-gt key a x xs (h .0) ∙ ap (λ (r : List _). x ∷ r) (insert-last key a xs (h .1))

@@ -1,6 +1,6 @@
 -- Laws of tests. Assumes nothing.
 use mathlib.Core.Path.{_≡_, refl, sym}
-use mathlib.Core.Bool.{Bool, true, false, not, _&&_, _||_}
+use mathlib.Core.Bool.{Bool, true, false, not, _&&_, _||_, or-true, or-false}
 use Prim.Native.Nat.{ℕ, _≤_, _<_}
 use native.Mathlib.Omega.{arith}
 use lib.Dec.{eqb, ltb}
@@ -38,6 +38,18 @@ not-no b e = rw e
 pub no-not : (b : Bool) → not b ≡ true → b ≡ false
 no-not true e = sym e
 no-not false e = refl
+
+pub or-yes : (a b : Bool) → b ≡ true → true ≡ a || b
+or-yes a b e = rw e (sym (or-true a))
+
+pub or-no : (a b : Bool) → b ≡ false → a ≡ a || b
+or-no a b e = rw e (sym (or-false a))
+
+pub and-then : (a b : Bool) {c : Bool} → a ≡ true → c ≡ b → c ≡ a && b
+and-then a b e h = rw e h
+
+pub and-stop : (a b : Bool) → a ≡ false → false ≡ a && b
+and-stop a b e = rw e
 
 -- by cases on a test, and on the order of two numbers
 pub by-test {ℓ} : {X : Type ℓ} (b : Bool) → (b ≡ true → X) → (b ≡ false → X) → X

@@ -13,9 +13,9 @@ use Rattle.base.specs.Lists.{any}
 use Rattle.base.proofs.Lists.{fill-step, fill-all}
 use Rattle.model.specs.Figures.{mostPeers}
 use Rattle.model.specs.State.{isPeer, contacted, Peer as ModelPeer}
-use Rattle.node.proofs.Extra.{map-set}
 use Rattle.node.specs.View.{peerOf, peersOf, PeersRep}
 use Rattle.node.specs.declared.peers.Peer.{Peer}
+use Rattle.base.proofs.Places.{map-set}
 use Rattle.node.specs.declared.peers.Peers.{Peers}
 
 first-count : (p : Peers) → PeersRep p → length (take (p .count) (p .list)) ≡ p .count

@@ -1,7 +1,7 @@
 -- The laws of the node's state.
-pub mod Extra
 pub mod Contacts
 pub mod Parts
 pub mod Own
 pub mod Moves
 pub mod Settling
+pub mod Peerings

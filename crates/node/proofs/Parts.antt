@@ -6,7 +6,7 @@ use Prim.Native.Nat.{_-_, ℕ, pred, _<_}
 use native.Mathlib.Omega.{arith}
 use lib.ListN.{length, getD, set, length-set, length-map, List·getD-map}
 use Rattle.base.specs.Lists.{isSome}
-use Rattle.base.proofs.Places.{getD-any}
+use Rattle.base.proofs.Places.{getD-any, map-set}
 use Rattle.table.specs.View.{view}
 use Rattle.table.specs.declared.Table.{Table}
 use Rattle.model.specs.Table.{look}
@@ -15,7 +15,6 @@ use Rattle.node.specs.View.{endpointOf, endpointsOf, peersOf, stateOf, R
 use Rattle.node.specs.declared.State.{State}
 use Rattle.node.specs.declared.Endpoint.{Endpoint}
 use Rattle.node.specs.declared.peers.Peers.{Peers}
-use Rattle.node.proofs.Extra.{map-set}
 
 module _ (s : State) (m : List ℕ) where
   pub state-own : stateOf s m .own ≡ s .own

@@ -12,7 +12,7 @@ use Rattle.table.specs.View.{view}
 use Rattle.node.specs.View.{endpointOf, endpointsOf, stateOf, Rep, Moved, Settled}
 use Rattle.node.specs.declared.State.{State}
 use Rattle.node.specs.declared.Endpoint.{Endpoint}
-use Rattle.node.proofs.Extra.{four-of}
+use Rattle.base.proofs.Places.{four-of}
 use Rattle.node.proofs.Parts.{putEndpoints}
 
 -- ---- reset

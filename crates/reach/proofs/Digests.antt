@@ -17,8 +17,8 @@ use Rattle.model.specs.Table.{statements}
 use Rattle.model.specs.Digest.{digestPart, digestOf}
 use Rattle.table.specs.declared.Table.{Table}
 use Rattle.table.specs.declared.Entry.{Entry as Row}
+use Rattle.base.proofs.Marks.{keep-by-map, keep-by-end, keep-by-next}
 use Rattle.table.specs.View.{blank, live, dataOf, seen, view, Hashed, Kept, Read}
-use Rattle.reach.proofs.Extra.{keep-by-map, keep-by-end, keep-by-next}
 
 -- number and digest of a row
 abbrev pub rowPart : Row → List ℕ

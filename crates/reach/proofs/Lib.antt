@@ -1,4 +1,3 @@
-pub mod Extra
 pub mod Links
 pub mod Nodes
 pub mod Waves

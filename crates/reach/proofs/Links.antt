@@ -17,8 +17,9 @@ use Rattle.wire.specs.declared.row.Header.{Header}
 use Rattle.wire.proofs.Rows.{tlvs-end}
 use Rattle.model.specs.Reach.{Link as ModelLink, linkOf, isPeerTlv, links, matches, joined}
 use Rattle.reach.specs.declared.link.Link.{Link}
+use Rattle.base.proofs.Bytes.{u32-part}
+use Rattle.base.proofs.Lists.{any-kept, any-same, any-never}
 use Rattle.reach.specs.Marks.{tlvOf, linkIn, joins}
-use Rattle.reach.proofs.Extra.{u32-part, any-kept, any-same, any-never}
 
 -- ---- one TLV
 

@@ -20,8 +20,8 @@ use Rattle.table.specs.declared.Table.{Table}
 use Rattle.table.specs.declared.Entry.{Entry as Row}
 use Rattle.table.specs.View.{blank, rowAt, dataOf, seen, view, Rows, Read}
 use Rattle.table.proofs.Rows.{view-length, view-at}
+use Rattle.base.proofs.Marks.{keep-by-end, keep-by-next}
 use Rattle.reach.specs.Marks.{joins, Readable, noVertex, Leads}
-use Rattle.reach.proofs.Extra.{keep-by-end, keep-by-next}
 
 -- ---- a node
 

@@ -21,8 +21,8 @@ use Rattle.table.specs.declared.Found.the-variants.{At, Missing}
 use Rattle.table.specs.View.{blank, seen, view, Rows, Stands, Gap, Finding}
 use Rattle.table.proofs.Rows.{view-length, view-at, view-ascending, look-gap}
 use Rattle.reach.specs.Marks.{markedOf, noVertex, Spread, Marking}
-use Rattle.reach.proofs.Extra.{not-at, keep-by-places, marked-at, alone-at}
 use Rattle.reach.proofs.Nodes.{vertex-at, vertices-length, few-nodes}
+use Rattle.base.proofs.Marks.{not-at, keep-by-places, marked-at, alone-at}
 use Rattle.reach.proofs.Waves.{levels-enough}
 
 abbrev nodeOf : Vertex → ℕ

@@ -7,14 +7,14 @@ use native.Mathlib.Nat.{not-suc-le-zero}
 use native.Mathlib.Omega.{arith}
 use lib.ListN.{length, getD}
 use Rattle.base.specs.Lists.{any, keep, keepBy, joinAll}
-use Rattle.base.proofs.Lists.{keep-length}
+use Rattle.base.proofs.Lists.{keep-length, any-joined, keep-never}
 use Rattle.model.specs.Figures.{mostNodes}
 use Rattle.model.specs.Table.{Entry}
 use Rattle.model.specs.Reach.{Vertex, vertices, touched, isNode, nonEmpty, levelsFrom}
 use Rattle.reach.specs.declared.mark.Wave.{Wave}
 use Rattle.reach.specs.Marks.{Wide, markedOf, noVertex, NextLevel, Onward, Spread}
+use Rattle.base.proofs.Marks.{not-at, any-either, keep-by-none, keep-by-both, keep-by-length}
 use Rattle.reach.proofs.Nodes.{vertices-length}
-use Rattle.reach.proofs.Extra.{any-append, keep-never, not-at, any-either, keep-by-none, keep-by-both, keep-by-length}
 
 -- ---- levels
 
@@ -49,7 +49,7 @@ levels-enough (suc f) (suc g) rest level p q =
 -- the nodes of the next level, and of those after it
 found-more : (n : ℕ) (l : List Vertex) (more : List (List Vertex)) → (l ≡ [] → more ≡ []) → any (isNode n) (joinAll (nonEmpty l more)) ≡ any (isNode n) l || any (isNode n) (joinAll more)
 found-more n [] more h = rw (h refl)
-found-more n (v ∷ l) more h = any-append (isNode n) (v ∷ l) (joinAll more)
+found-more n (v ∷ l) more h = any-joined (isNode n) (v ∷ l) (joinAll more)
 
 found-next : (n f : ℕ) (rest level : List Vertex) → any (isNode n) (joinAll (levelsFrom (suc f) rest level))
     ≡ any (isNode n) (keep (touched level) rest) || any (isNode n) (joinAll (levelsFrom f (keep (λ v. not (touched level v)) rest) (keep (touched level) rest)))
@@ -75,7 +75,7 @@ module _ (now : ℕ) (t : List Entry) (s : length t ≤ mostNodes) where
       → any (isNode n) (markedOf now t first ++ joinAll (levelsFrom (length t) (keepBy (map not first) (vertices now t)) (markedOf now t first))) ≡ foundFrom now t mostNodes first first n
   found-start first n =
       let l : length (keepBy (map not first) (vertices now t)) ≤ length t = rw (← vertices-length now t) (keep-by-length (map not first) (vertices now t)) in
-      any-append (isNode n) (markedOf now t first) (joinAll (levelsFrom (length t) (keepBy (map not first) (vertices now t)) (markedOf now t first)))
+      any-joined (isNode n) (markedOf now t first) (joinAll (levelsFrom (length t) (keepBy (map not first) (vertices now t)) (markedOf now t first)))
       ∙ rw (levels-enough (length t) mostNodes (keepBy (map not first) (vertices now t)) (markedOf now t first) l (omega arith))
 
   -- no level is left

@@ -11,7 +11,7 @@ use Rattle.base.specs.Sorted.{find}
 use Rattle.base.proofs.Tests.{no-way, by-order}
 use Rattle.base.proofs.Lists.{all-more}
 use Rattle.base.proofs.Places.{all-at}
-use Rattle.base.proofs.Sorted.{find-yes, find-no}
+use Rattle.base.proofs.Sorted.{find-yes, find-no, insert-last}
 use Rattle.model.specs.Figures.{tableBytes}
 use Rattle.model.specs.Table.{Entry, entryOf, idOf, look, put}
 use Rattle.model.specs.Snapshot.{consTo, loadEntries, holdsOwn, load}
@@ -24,7 +24,6 @@ use Rattle.snapshot.specs.declared.read.EntryRead.the-variants.{Whole, N
 use Rattle.snapshot.specs.declared.read.HeadRead.{HeadRead}
 use Rattle.snapshot.specs.declared.read.HeadRead.the-variants.{Head, NoHead}
 use Rattle.snapshot.specs.Answers.{Stands, ReadEntry, Heads, ReadHead, LoadedFrom}
-use Rattle.snapshot.proofs.Extra.{insert-last}
 use Rattle.snapshot.proofs.Reading.{Stops}
 
 -- ---- what reading one entry answers

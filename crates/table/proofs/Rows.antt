@@ -25,6 +25,8 @@ use Rattle.model.specs.Figures.{mostNodes, dataLimit, tableBytes}
 use Rattle.model.specs.Table.{Entry, Statement, entryOf, idOf, put, look}
 use Rattle.table.specs.View.{blank, rowId, live, rowAt, dataOf, seen, view, OnlySlot, Free, Apart, FitRow, Fit, Hashed, Rows, Kept, Stands, Gap, Finding, Read, Stored, withEntries, withRow, inserted, Renumbered, SlotUsed, Purged}
 use Rattle.table.specs.declared.Table.{Table}
+use Rattle.table.specs.declared.Found.{Found}
+use Rattle.table.specs.declared.Found.the-variants.{At, Missing}
 use Rattle.table.specs.declared.Entry.{Entry as Row}
 
 -- ---- seen in the model
@@ -508,3 +510,11 @@ begun own clock hash m l r h n =
 pub all-stored : (P : Entry → Type 0) (e : Entry) (t r : Table) (m m′ : List ℕ) (i : ℕ) → Stored e t m i r m′ → P e → All P (view t m) → All P (view r m′)
 unfolding put
 all-stored P e t r m m′ i s p h = rw (s .viewed) (all-insert P idOf e (view t m) p h)
+
+-- what a search found, by its answer
+module _ (t : Table) (id i : ℕ) (f : Found) where
+  pub stands-of : f ≡ At i → Finding t id f → Stands t id i
+  stands-of e h = subst (λ (x : Found). Finding t id x) e h
+
+  pub gap-of : f ≡ Missing i → Finding t id f → Gap t id i
+  gap-of e h = subst (λ (x : Found). Finding t id x) e h

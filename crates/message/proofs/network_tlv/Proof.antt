@@ -25,7 +25,11 @@ store-requires : tie.Need-store-requires
 store-requires c κs = search needs
 
 returns : tie.Need-returns
-returns c = network-filled _ _ _ (c .before .before .before .before .before .before .before .before .before .before .args .t1) (c .before .before .before .before .before .before .before .before .before .before .pre) (c .before .before .before .before .before .before .before .before .put-u16 .ensures) (c .before .before .before .before .before .put-u162 .ensures) (c .before .store .ensures)
+returns c =
+    let s = c .before .before .before .before .before .before .before .before .before .before in
+    let e1 = c .before .before .before .before .before .before .before .before .put-u16 .ensures in
+    let e2 = c .before .before .before .before .before .put-u162 .ensures in
+    network-filled _ _ _ (s .args .t1) (s .pre) e1 e2 (c .before .store .ensures)
 
 pub network-tlv-spec : {M : Type 1} → statement M
 network-tlv-spec =

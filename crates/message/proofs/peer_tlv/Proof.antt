@@ -36,7 +36,11 @@ put-u32-requires-3 c κs = search needs
 returns : tie.Need-returns
 returns c =
     let a = c .before .before .before .before .before .before .before .before .before .before .before .before .before .before .before .args in
-    peer-filled _ _ _ _ _ (record { node = a .node; theirs = a .theirs; ours = a .ours; contact = 0 }) (c .before .before .before .before .before .before .before .before .before .before .before .before .before .put-u16 .ensures) (c .before .before .before .before .before .before .before .before .before .before .put-u162 .ensures) (c .before .before .before .before .before .before .before .put-u32 .ensures) (c .before .before .before .before .put-u322 .ensures) (c .before .put-u323 .ensures)
+    let e1 = c .before .before .before .before .before .before .before .before .before .before .before .before .before .put-u16 .ensures in
+    let e2 = c .before .before .before .before .before .before .before .before .before .before .put-u162 .ensures in
+    let e3 = c .before .before .before .before .before .before .before .put-u32 .ensures in
+    let e4 = c .before .before .before .before .put-u322 .ensures in
+    peer-filled _ _ _ _ _ (record { node = a .node; theirs = a .theirs; ours = a .ours; contact = 0 }) e1 e2 e3 e4 (c .before .put-u323 .ensures)
 
 pub peer-tlv-spec : {M : Type 1} → statement M
 peer-tlv-spec =

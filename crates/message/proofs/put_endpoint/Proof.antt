@@ -29,8 +29,12 @@ same-length c = search needs
 
 returns : tie.Need-returns
 returns c =
-    let a = c .before .before .before .before .before .before .before .before .before .before .before .before .before .before .before .before .before .args in
-    endpoint-filled (a .room .now) _ _ _ _ (a .at) (a .own) (a .endpoint) (c .before .before .before .before .before .before .before .before .before .before .before .before .before .before .before .before .before .pre) (c .before .before .before .before .before .before .before .before .before .before .before .before .before .before .put-u16 .ensures) (c .before .before .before .before .before .before .before .before .before .before .put-u162 .ensures) (c .before .before .before .before .before .before .put-u32 .ensures) (c .before .before .put-u322 .ensures)
+    let s = c .before .before .before .before .before .before .before .before .before .before .before .before .before .before .before .before .before in
+    let a = s .args in
+    let e1 = c .before .before .before .before .before .before .before .before .before .before .before .before .before .before .put-u16 .ensures in
+    let e2 = c .before .before .before .before .before .before .before .before .before .before .put-u162 .ensures in
+    let e3 = c .before .before .before .before .before .before .put-u32 .ensures in
+    endpoint-filled (a .room .now) _ _ _ _ (a .at) (a .own) (a .endpoint) (s .pre) e1 e2 e3 (c .before .before .put-u322 .ensures)
 
 pub put-endpoint-spec : {M : Type 1} → statement M
 put-endpoint-spec =

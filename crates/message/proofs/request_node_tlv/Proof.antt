@@ -22,7 +22,10 @@ put-u32-requires : tie.Need-put-u32-requires
 put-u32-requires c κs = search needs
 
 returns : tie.Need-returns
-returns c = request-node-filled _ _ _ (c .before .before .before .before .before .before .before .before .before .args .node) (c .before .before .before .before .before .before .before .put-u16 .ensures) (c .before .before .before .before .put-u162 .ensures) (c .before .put-u32 .ensures)
+returns c =
+    let e1 = c .before .before .before .before .before .before .before .put-u16 .ensures in
+    let e2 = c .before .before .before .before .put-u162 .ensures in
+    request-node-filled _ _ _ (c .before .before .before .before .before .before .before .before .before .args .node) e1 e2 (c .before .put-u32 .ensures)
 
 pub request-node-tlv-spec : {M : Type 1} → statement M
 request-node-tlv-spec =

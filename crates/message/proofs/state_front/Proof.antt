@@ -50,8 +50,14 @@ store-requires c κs = search needs
 
 returns : tie.Need-returns
 returns c =
-    let a = c .before .before .before .before .before .before .before .before .before .before .before .before .before .before .before .before .before .before .before .args in
-    front-filled _ _ _ _ _ _ (a .t4) (a .node) (a .seq) (a .age) (a .len) (c .before .before .before .before .before .before .before .before .before .before .before .before .before .before .before .before .before .before .before .pre .0) (c .before .before .before .before .before .before .before .before .before .before .before .before .before .before .before .before .before .put-u16 .ensures) (c .before .before .before .before .before .before .before .before .before .before .before .before .before .before .put-u162 .ensures) (c .before .before .before .before .before .before .before .before .before .before .before .put-u32 .ensures) (c .before .before .before .before .before .before .before .before .put-u322 .ensures) (c .before .before .before .before .before .put-u323 .ensures) (c .before .store .ensures)
+    let s = c .before .before .before .before .before .before .before .before .before .before .before .before .before .before .before .before .before .before .before in
+    let a = s .args in
+    let e1 = c .before .before .before .before .before .before .before .before .before .before .before .before .before .before .before .before .before .put-u16 .ensures in
+    let e2 = c .before .before .before .before .before .before .before .before .before .before .before .before .before .before .put-u162 .ensures in
+    let e3 = c .before .before .before .before .before .before .before .before .before .before .before .put-u32 .ensures in
+    let e4 = c .before .before .before .before .before .before .before .before .put-u322 .ensures in
+    let e5 = c .before .before .before .before .before .put-u323 .ensures in
+    front-filled _ _ _ _ _ _ (a .t4) (a .node) (a .seq) (a .age) (a .len) (s .pre .0) e1 e2 e3 e4 e5 (c .before .store .ensures)
 
 pub state-front-spec : {M : Type 1} → statement M
 state-front-spec =

@@ -8,8 +8,9 @@ use mathlib.Core.Bool.{true, false, _||_}
 use mathlib.Core.Logic.{⊎-elim}
 use lib.ListN.{length, getD, length-set}
 use Rattle.model.specs.Figures.{mostNodes}
+use Rattle.base.proofs.Marks.{Filled, fill-start, fill-set, fill-stay}
+use Rattle.base.proofs.Tests.{or-yes, or-no}
 use Rattle.reach.specs.Marks.{Wide}
-use Rattle.reach.proofs.Extra.{Filled, fill-start, fill-set, fill-stay, or-yes, or-no}
 
 abbrev Inv-loop : tie.InvT-loop
 Inv-loop y r₀ i₀ r i = (i ≤ mostNodes) × Wide r × Filled (λ k. getD r₀ k false || getD y k false) (λ k. getD r₀ k false) i r

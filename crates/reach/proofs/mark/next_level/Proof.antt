@@ -11,8 +11,9 @@ use Rattle.model.specs.Figures.{mostNodes}
 use Rattle.model.specs.Reach.{vertices, touched}
 use Rattle.table.specs.View.{view}
 use Rattle.table.proofs.Rows.{view-length}
+use Rattle.base.proofs.Marks.{Filled, fill-start, fill-set, fill-stay, none-set}
+use Rattle.base.proofs.Tests.{and-then, and-stop}
 use Rattle.reach.specs.Marks.{Wide, markedOf, noVertex}
-use Rattle.reach.proofs.Extra.{Filled, fill-start, fill-set, fill-stay, none-set, and-then, and-stop}
 
 abbrev Inv-loop : tie.InvT-loop
 Inv-loop t mem clock level met count next₀ v₀ next v =

@@ -1,76 +1,20 @@
--- General laws of bytes, searches and marks, which speak of no node. Assumes nothing.
+-- Marks: the elements whose mark is set, marks set one after the other, and marks of sorted lists. Assumes nothing.
 use mathlib.Core.Path.{_≡_, refl, sym, ap, _∙_}
-use mathlib.Core.Bool.{Bool, true, false, cond, not, _&&_, _||_, or-true, or-false}
-use mathlib.Core.List.{List, [], _∷_, _++_, map}
+use mathlib.Core.Bool.{Bool, true, false, cond, not, _&&_, _||_, or-true}
+use mathlib.Core.List.{List, [], _∷_, map}
 use Prim.Native.Nat.{ℕ, zero, suc, _+_, _≤_, _<_, zero-le, suc-le-suc}
 use native.Mathlib.Nat.{not-suc-le-zero, le-of-suc-le-suc}
 use native.Mathlib.Numerals.{add-one}
 use native.Mathlib.Omega.{arith}
-use lib.ListN.{length, getD, take, drop, set, replicate, length-replicate, drop-of-length-le}
-use lib.Seq.{getD-drop, getD-take, getD-set-same, getD-set-other, drop-cons, drop-drop}
+use lib.ListN.{length, getD, drop, set, replicate, length-replicate, drop-of-length-le}
+use lib.Seq.{getD-drop, getD-set-same, getD-set-other, drop-cons, drop-drop}
 use lib.Dec.{eqb}
 use borrow.Author.Count.{below-more}
 use borrow.Author.Tests.{eq-eqb, ne-eqb}
-use Rattle.base.specs.Bytes.{u32At}
 use Rattle.base.specs.Lists.{any, keep, keepBy}
 use Rattle.base.specs.Sorted.{Above, Ascending}
 use Rattle.base.proofs.Tests.{by-test, by-order}
-
--- ---- numbers in a part
-
-pub u32-part : (s : List ℕ) (n a i : ℕ) → i + 4 ≤ n → u32At (take n (drop a s)) i ≡ u32At s (a + i)
-u32-part s n a i h =
-    let e1 : a + (i + 1) ≡ a + i + 1 = omega arith in
-    let e2 : a + (i + 2) ≡ a + i + 2 = omega arith in
-    let e3 : a + (i + 3) ≡ a + i + 3 = omega arith in
-    rw (at i (omega arith), at (i + 1) (omega arith), at (i + 2) (omega arith), at (i + 3) (omega arith), e1, e2, e3)
-  where
-    at : (k : ℕ) → k < n → getD (take n (drop a s)) k 0 ≡ getD s (a + k) 0
-    at k p = getD-take n (drop a s) k 0 p ∙ getD-drop a s k 0
-
--- ---- tests
-
-pub or-yes : (a b : Bool) → b ≡ true → true ≡ a || b
-or-yes a b e = rw e (sym (or-true a))
-
-pub or-no : (a b : Bool) → b ≡ false → a ≡ a || b
-or-no a b e = rw e (sym (or-false a))
-
-pub and-then : (a b : Bool) {c : Bool} → a ≡ true → c ≡ b → c ≡ a && b
-and-then a b e h = rw e h
-
-pub and-stop : (a b : Bool) → a ≡ false → false ≡ a && b
-and-stop a b e = rw e
-
--- ---- searches
-
-module _ {A : Type 0} where
-  -- a search among what is kept and mapped is one among all
-  pub any-kept : {B : Type 0} (f : B → Bool) (g : A → B) (p : A → Bool) (l : List A) → any f (map g (keep p l)) ≡ any (λ x. p x && f (g x)) l
-  any-kept f g p [] = refl
-  any-kept f g p (x ∷ l) =
-      let h : any f (map g (keep p l)) ≡ any (λ x. p x && f (g x)) l = any-kept f g p l in
-      by-test (p x) (λ b. rw (b, h)) (λ b. rw (b, h))
-
-  -- tests that agree find the same
-  pub any-same : (f g : A → Bool) (l : List A) → ((x : A) → f x ≡ g x) → any f l ≡ any g l
-  any-same f g [] h = refl
-  any-same f g (x ∷ l) h = rw (h x, any-same f g l h)
-
-  -- a test that never holds finds nothing, and keeps nothing
-  pub any-never : (f : A → Bool) (l : List A) → ((x : A) → f x ≡ false) → any f l ≡ false
-  any-never f [] h = refl
-  any-never f (x ∷ l) h = rw (h x, any-never f l h)
-
-  pub keep-never : (f : A → Bool) (l : List A) → ((x : A) → f x ≡ false) → keep f l ≡ []
-  keep-never f [] h = refl
-  keep-never f (x ∷ l) h = rw (h x, keep-never f l h)
-
-  pub any-append : (f : A → Bool) (k l : List A) → any f (k ++ l) ≡ any f k || any f l
-  any-append f [] l = refl
-  any-append f (x ∷ k) l = let h : any f (k ++ l) ≡ any f k || any f l = any-append f k l in by-test (f x) (λ b. rw b) (λ b. rw (b, h))
-
--- ---- marks
+use Rattle.base.proofs.Places.{above-at}
 
 -- the mark at a place: of those turned round, where none is set, and of those after the first
 pub not-at : (bs : List Bool) (i : ℕ) → i < length bs → getD (map not bs) i false ≡ not (getD bs i false)
@@ -192,11 +136,6 @@ module _ {A : Type 0} (key : A → ℕ) where
   any-above (true ∷ bs) (x ∷ l) n h = rw (ne-eqb (key x) n (omega arith)) (any-above bs l n (h .1))
   any-above (false ∷ bs) (x ∷ l) n h = any-above bs l n (h .1)
 
-  above-at : (d : A) (n : ℕ) (l : List A) (i : ℕ) → Above key n l → i < length l → n < key (getD l i d)
-  above-at d n [] i h p = absurd (not-suc-le-zero p)
-  above-at d n (x ∷ l) zero h p = h .0
-  above-at d n (x ∷ l) (suc i) h p = above-at d n l i (h .1) (le-of-suc-le-suc p)
-
   -- an element is among those marked just where its own mark is set
   pub marked-at : (d : A) (bs : List Bool) (l : List A) (i : ℕ) → Ascending key l → i < length l → any (λ x. eqb (key x) (key (getD l i d))) (keepBy bs l) ≡ getD bs i false
   marked-at d [] l i a p = refl
@@ -204,14 +143,14 @@ module _ {A : Type 0} (key : A → ℕ) where
   marked-at d (true ∷ bs) (x ∷ l) zero a p = rw (eq-eqb (key x) (key x) refl)
   marked-at d (false ∷ bs) (x ∷ l) zero a p = any-above bs l (key x) (a .0)
   marked-at d (true ∷ bs) (x ∷ l) (suc i) a p =
-      let k : key x < key (getD l i d) = above-at d (key x) l i (a .0) (le-of-suc-le-suc p) in
+      let k : key x < key (getD l i d) = above-at key d (key x) l i (a .0) (le-of-suc-le-suc p) in
       rw (ne-eqb (key x) (key (getD l i d)) (omega arith)) (marked-at d bs l i (a .1) (le-of-suc-le-suc p))
   marked-at d (false ∷ bs) (x ∷ l) (suc i) a p = marked-at d bs l i (a .1) (le-of-suc-le-suc p)
 
   ascending-at : (d : A) (l : List A) (i j : ℕ) → Ascending key l → i < j → j < length l → key (getD l i d) < key (getD l j d)
   ascending-at d [] i j a p q = absurd (not-suc-le-zero q)
   ascending-at d (x ∷ l) i zero a p q = absurd (not-suc-le-zero p)
-  ascending-at d (x ∷ l) zero (suc j) a p q = above-at d (key x) l j (a .0) (le-of-suc-le-suc q)
+  ascending-at d (x ∷ l) zero (suc j) a p q = above-at key d (key x) l j (a .0) (le-of-suc-le-suc q)
   ascending-at d (x ∷ l) (suc i) (suc j) a p q = ascending-at d l i j (a .1) (le-of-suc-le-suc p) (le-of-suc-le-suc q)
 
   -- one mark alone, at the place of the key n, is the test for that key
