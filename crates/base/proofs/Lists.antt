@@ -6,7 +6,7 @@ use mathlib.Core.Logic.{_⊎_, inl, inr, ⊎-elim}
 use Prim.Native.Nat.{ℕ, zero, suc, _+_, _-_, _≤_, _<_}
 use native.Mathlib.Omega.{arith}
 use native.Mathlib.Numerals.{add-one}
-use lib.ListN.{length, getD, take, drop, set, drop-of-length-le}
+use lib.ListN.{length, getD, take, drop, set, length-drop, drop-of-length-le}
 use lib.Seq.{drop-cons, take-take, take-nil, take-all, take-suc, length-take-le, set-at, append-snoc}
 use Rattle.base.specs.Lists.{any, keep, keepBy, joinAll, In, All}
 use Rattle.base.proofs.Tests.{no-way, by-test, or-left, or-right}
@@ -28,6 +28,10 @@ take-drop-take n b a l h = ap (take n) (drop-take b (a - b) a l (omega arith)) �
 -- a part of a whole, as code hands it on
 pub part-is : (s : List ℕ) (a e n : ℕ) → e ≡ a + n → take (e - a) (drop a s) ≡ take n (drop a s)
 part-is s a e n q = let p : e - a ≡ n = omega arith in rw p
+
+-- the part from place n on
+pub rest-is : (s : List ℕ) (n : ℕ) → take (length s - n) (drop n s) ≡ drop n s
+rest-is s n = take-all (length s - n) (drop n s) (omega (arith, length-drop n s))
 
 -- a loop that makes l into p, front to back: one more store, and all of them
 pub fill-step : {A : Type 0} (p l : List A) (j : ℕ) (d : A) → j < length p → j < length l

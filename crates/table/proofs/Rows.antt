@@ -511,6 +511,12 @@ pub all-stored : (P : Entry → Type 0) (e : Entry) (t r : Table) (m m′ : List
 unfolding put
 all-stored P e t r m m′ i s p h = rw (s .viewed) (all-insert P idOf e (view t m) p h)
 
+-- the digest kept with a row is that of its data
+pub row-hashed : (t : Table) (m : List ℕ) (i : ℕ) → Kept t m → i < t .count → rowAt t i .hash ≡ hash16 (dataOf m (rowAt t i))
+row-hashed t m i k p =
+    subst (λ (e : Row). e .hash ≡ hash16 (dataOf m e)) (live-at t i p)
+    (all-at (λ (e : Row). e .hash ≡ hash16 (dataOf m e)) blank (live t) i (k .hashed) (rw (live-length t (k .rows)) p))
+
 -- what a search found, by its answer
 module _ (t : Table) (id i : ℕ) (f : Found) where
   pub stands-of : f ≡ At i → Finding t id f → Stands t id i

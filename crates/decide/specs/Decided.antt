@@ -1,0 +1,58 @@
+-- The code's decision on a Node State as the model's: document 01's cases with their numbers. Assumes nothing.
+use mathlib.Core.Path.{_≡_}
+use mathlib.Core.List.{List}
+use Prim.Native.Nat.{ℕ, _≤_, _<_}
+use lib.ListN.{length, take, drop}
+use Rattle.base.specs.Bytes.{u32At}
+use Rattle.sha256.specs.Sha256.{hash16}
+use Rattle.model.specs.Figures.{mostNodes, dataLimit}
+use Rattle.model.specs.Table.{entryOf}
+use Rattle.model.specs.Decide.{Decision as ModelDecision, receivedOf, decide}
+use Rattle.table.specs.declared.Table.{Table}
+use Rattle.table.specs.View.{rowAt, dataOf, view, Kept, Stands, Gap}
+use Rattle.decide.specs.declared.Decision.{Decision}
+use Rattle.decide.specs.declared.Decision.the-variants.{Ignored, Ask, TakeNumber, Replace, Insert, Dropped}
+
+-- what it is in the model, for the table t with memory m and the received value v
+abbrev pub decisionOf : ℕ → Table → List ℕ → List ℕ → Decision → ModelDecision
+decisionOf now t m v Ignored = ModelDecision.ignored
+decisionOf now t m v (Ask node) = ModelDecision.ask node
+decisionOf now t m v (TakeNumber place node seq age) = ModelDecision.takeNumber (entryOf node seq (dataOf m (rowAt t place)) age now)
+decisionOf now t m v (Replace place node seq age) = ModelDecision.takeAll (entryOf node seq (drop 28 v) age now)
+decisionOf now t m v (Insert place node seq age) = ModelDecision.takeAll (entryOf node seq (drop 28 v) age now)
+decisionOf now t m v Dropped = ModelDecision.dropped
+
+-- where it would act
+abbrev pub Acts : Table → Decision → Type 0
+Acts t Ignored = Unit {0}
+Acts t (Ask node) = Unit {0}
+Acts t (TakeNumber place node seq age) = Stands t node place
+Acts t (Replace place node seq age) = Stands t node place
+Acts t (Insert place node seq age) = Gap t node place
+Acts t Dropped = Unit {0}
+
+-- what it takes is short and hashed as received, and a new node has room
+abbrev pub Fine : List ℕ → Type 0
+Fine v = (length (drop 28 v) ≤ dataLimit) × (take 16 (drop 12 v) ≡ hash16 (drop 28 v))
+
+abbrev pub Taken : Table → List ℕ → Decision → Type 0
+Taken t v Ignored = Unit {0}
+Taken t v (Ask node) = Unit {0}
+Taken t v (TakeNumber place node seq age) = Unit {0}
+Taken t v (Replace place node seq age) = Fine v
+Taken t v (Insert place node seq age) = (t .count < mostNodes) × Fine v
+Taken t v Dropped = Unit {0}
+
+-- the fields of the value v: node, number, age, digest, and the data from byte 28 on
+pub record Fields (v : List ℕ) (node seq age : ℕ) (hash bytes : List ℕ) : Type 0 where
+  pub node-is : node ≡ u32At v 0
+  pub seq-is : seq ≡ u32At v 4
+  pub age-is : age ≡ u32At v 8
+  pub hash-is : hash ≡ take 16 (drop 12 v)
+  pub bytes-are : bytes ≡ drop 28 v
+
+-- it is the model's decision on the value v, at every reading and for every memory of the table
+pub record Decides (t : Table) (v : List ℕ) (d : Decision) : Type 0 where
+  pub acts : Acts t d
+  pub taken : Taken t v d
+  pub is : (now : ℕ) (m : List ℕ) → Kept t m → decisionOf now t m v d ≡ decide now (view t m) (receivedOf v)
