@@ -1,12 +1,12 @@
 -- Marks: the elements whose mark is set, marks set one after the other, and marks of sorted lists. Assumes nothing.
 use mathlib.Core.Path.{_≡_, refl, sym, ap, _∙_}
 use mathlib.Core.Bool.{Bool, true, false, cond, not, _&&_, _||_, or-true}
-use mathlib.Core.List.{List, [], _∷_, map}
+use mathlib.Core.List.{List, [], _∷_, _++_, append-nil, map}
 use Prim.Native.Nat.{ℕ, zero, suc, _+_, _≤_, _<_, zero-le, suc-le-suc}
 use native.Mathlib.Nat.{not-suc-le-zero, le-of-suc-le-suc}
 use native.Mathlib.Numerals.{add-one}
 use native.Mathlib.Omega.{arith}
-use lib.ListN.{length, getD, drop, set, replicate, length-replicate, drop-of-length-le}
+use lib.ListN.{length, getD, take, drop, set, replicate, length-replicate, drop-of-length-le}
 use lib.Seq.{getD-drop, getD-set-same, getD-set-other, drop-cons, drop-drop}
 use lib.Dec.{eqb}
 use borrow.Author.Count.{below-more}
@@ -32,7 +32,7 @@ tail-at [] i = refl
 tail-at (b ∷ bs) i = refl
 
 module _ {A : Type 0} where
-  keep-by-nil : (bs : List Bool) → keepBy {A = A} bs [] ≡ []
+  pub keep-by-nil : (bs : List Bool) → keepBy {A = A} bs [] ≡ []
   keep-by-nil [] = refl
   keep-by-nil (b ∷ bs) = refl
 
@@ -101,6 +101,22 @@ module _ {A : Type 0} where
     keep-by-both p bs cs (x ∷ l) h =
         let r : keepBy (drop 1 cs) l ≡ keep p (keepBy (drop 1 bs) l) = keep-by-both p (drop 1 bs) (drop 1 cs) l (λ i k. rw (tail-at bs i, tail-at cs i) (h (suc i) (suc-le-suc k))) in
         rw (keep-by-head bs x l, keep-by-head cs x l, h 0 (suc-le-suc zero-le), r) (by-test (getD bs 0 false) (λ e. rw e) (λ e. rw e))
+
+-- what is marked below place i + 1 is what is marked below i, and the element there if it is marked
+module _ {A : Type 0} (d : A) where
+  by-suc : (bs : List Bool) (l : List A) (i : ℕ) → i < length l → keepBy bs (take (suc i) l) ≡ keepBy bs (take i l) ++ cond (getD bs i false) (getD l i d ∷ []) []
+  by-suc [] l i p = refl
+  by-suc (b ∷ bs) [] i p = absurd (not-suc-le-zero p)
+  by-suc (b ∷ bs) (x ∷ l) zero p = rw (keep-by-nil bs)
+  by-suc (true ∷ bs) (x ∷ l) (suc i) p = ap (λ (k : List A). x ∷ k) (by-suc bs l i (le-of-suc-le-suc p))
+  by-suc (false ∷ bs) (x ∷ l) (suc i) p = by-suc bs l i (le-of-suc-le-suc p)
+
+  module _ (bs : List Bool) (l : List A) (i : ℕ) (p : i < length l) where
+    pub keep-by-out : getD bs i false ≡ false → keepBy bs (take (i + 1) l) ≡ keepBy bs (take i l)
+    keep-by-out b = rw (add-one, by-suc bs l i p, b) (append-nil (keepBy bs (take i l)))
+
+    pub keep-by-in : getD bs i false ≡ true → keepBy bs (take (i + 1) l) ≡ keepBy bs (take i l) ++ (getD l i d ∷ [])
+    keep-by-in b = rw (add-one, by-suc bs l i p, b)
 
 -- ---- marks set one after the other: those below place i are P's by now, the others still Q's
 

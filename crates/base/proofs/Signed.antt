@@ -8,9 +8,9 @@ use lib.IntN.{ℤ, pos, negsuc, _+ℤ_, _-ℤ_, +ℤ-assoc, +ℤ-comm, +ℤ-idl}
 use lib.Dec.{ltb}
 use lib.Signed.{mag, ltZ}
 use borrow.Author.Tests.{ltb-true, le-ltb, lt-ltb}
-use mir.Syntax.{Width}
+use mir.Syntax.{Width, w32, w64}
 use mir.Val.{SFits, toZ, ofZ, hbits}
-use mir.Facts.{toZ-ofZ}
+use mir.Facts.{toZ-ofZ, sfits-widen}
 use Rattle.base.specs.Signed.{sumℤ}
 
 -- the size of a signed sum
@@ -85,3 +85,11 @@ module _ (w : Width) (n : ℕ) (h : n < 2 ^ hbits w) where
 
   pub below-back : toZ w (ofZ w (negsuc 0 -ℤ toZ w n)) ≡ negsuc n
   below-back = toZ-ofZ {w = w} below-fits ∙ below
+
+-- a signed word widened
+module _ (x : ℤ) (f : SFits w32 x) where
+  pub wide-fits : SFits w64 (toZ w32 (ofZ w32 x))
+  wide-fits = rw (narrow-back w32 x f) (sfits-widen {w = w32} {w′ = w64} tt f)
+
+  pub wide-back : toZ w64 (ofZ w64 (toZ w32 (ofZ w32 x))) ≡ x
+  wide-back = rw (narrow-back w32 x f) (narrow-back w64 x (sfits-widen {w = w32} {w′ = w64} tt f))

@@ -241,6 +241,8 @@ pub levels-are-chains : LevelsAreChains
 levels-are-chains =
     record {
       same = λ own now t n. (reach-chain own now t n, chain-reach own now t n);
+      entries = λ own now t e. (reached-in own now t e, λ h. in-reached own now t e (h .0) (h .1));
+      sorted = reached-ascending;
       few = λ s now v. let h = own-vertex v now in
           let l : length (vertices now (s .table)) ≡ length (s .table) = length-map (s .table) _ in
           omega (arith, levels-less (s .own) (vertices now (s .table)) (h .0) (h .1) (h .2));

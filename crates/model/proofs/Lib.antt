@@ -19,3 +19,5 @@ pub mod TwoTicks
 pub mod Marked
 pub mod Levels
 pub mod Turns
+pub mod Refusals
+pub mod ReadBack

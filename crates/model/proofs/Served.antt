@@ -17,7 +17,7 @@ use Rattle.base.proofs.Lists.{in-append, in-keep, join-append}
 use Rattle.base.proofs.Sorted.{find-some}
 use Rattle.wire.specs.Row.{typeOf, valueOf, encode}
 use Rattle.wire.proofs.Encoded.{encode-type, encode-whole}
-use Rattle.wire.proofs.Good.{Whole, Wholes, wholes-append}
+use Rattle.wire.proofs.Good.{Whole, Wholes, row-joined, wholes-append}
 use Rattle.model.specs.Figures.{mostBytes}
 use Rattle.model.specs.Table.{Entry, idOf, look}
 use Rattle.model.specs.Reach.{inReach, reached}
@@ -230,4 +230,4 @@ module _ (c : Context) (w : Work) where
 -- ---- the statement
 
 pub served : Served
-served = record { only = λ c t w. let a : Writes (reachedNow c w) c w (oneTlv c t w) = one-writes c w t in (a .us, a .out, a .fair) }
+served = record { only = λ c t w. let a : Writes (reachedNow c w) c w (oneTlv c t w) = one-writes c w t in (a .us, a .out, row-joined (a .us) (a .whole), a .fair) }

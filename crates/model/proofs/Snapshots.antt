@@ -405,10 +405,10 @@ all-from : (t : List Entry) → All (λ e. 0 ≤ idOf e) t
 all-from [] = tt
 all-from (e ∷ t) = (omega arith, all-from t)
 
-own-capped : (own now : ℕ) (t : List Entry) → isSome (look own t) ≡ true → isSome (look own (map (capped now) t)) ≡ true
+own-capped : (own now later : ℕ) (t : List Entry) → isSome (look own t) ≡ true → isSome (look own (map (capped now later) t)) ≡ true
 unfolding look find
-own-capped own now [] e = e
-own-capped own now (x ∷ t) e = by-test (eqb (idOf x) own) (λ b. rw b) (λ b. rw b (own-capped own now t (rw b at e)))
+own-capped own now later [] e = e
+own-capped own now later (x ∷ t) e = by-test (eqb (idOf x) own) (λ b. rw b) (λ b. rw b (own-capped own now later t (rw b at e)))
 
 some-held : (own : ℕ) (t : List Entry) → isSome (look own t) ≡ true → 1 ≤ length t
 unfolding look find
@@ -447,31 +447,31 @@ saved-next now last low e r h l =
       fine = rw (take-append-seam (e .says .nodeData) r) (h .fine);
     }
 
-load-entry : (now last n low : ℕ) (e : Entry) (r : List ℕ) → EntryFits last e → low ≤ idOf e
-    → loadEntries now (suc n) low (saveEntry now e ++ r) ≡ consTo (capped now e) (loadEntries now n (idOf e + 1) r)
+load-entry : (now later last n low : ℕ) (e : Entry) (r : List ℕ) → EntryFits last e → low ≤ idOf e
+    → loadEntries later (suc n) low (saveEntry now e ++ r) ≡ consTo (capped now later e) (loadEntries later n (idOf e + 1) r)
 unfolding saved-next
-load-entry now last n low e r h l =
+load-entry now later last n low e r h l =
     rw (entry-spelt now e r)
-    (next-fine now n low _ (saved-next now last low e r h l) ∙ rw (take-append-seam (e .says .nodeData) r, drop-append-seam (e .says .nodeData) r))
+    (next-fine later n low _ (saved-next now last low e r h l) ∙ rw (take-append-seam (e .says .nodeData) r, drop-append-seam (e .says .nodeData) r))
 
-load-entries : (now last low : ℕ) (t : List Entry) → All (EntryFits last) t → All (λ e. low ≤ idOf e) t → Ascending idOf t
-    → loadEntries now (length t) low (savedEntries now t) ≡ some (map (capped now) t)
-load-entries now last low [] h k a = last-end now low [] refl
-load-entries now last low (e ∷ t) h k a =
-    load-entry now last (length t) low e (savedEntries now t) (h .0) (k .0)
-    ∙ ap (consTo (capped now e)) (load-entries now last (idOf e + 1) t (h .1) (above-from (idOf e) t (a .0)) (a .1))
+load-entries : (now later last low : ℕ) (t : List Entry) → All (EntryFits last) t → All (λ e. low ≤ idOf e) t → Ascending idOf t
+    → loadEntries later (length t) low (savedEntries now t) ≡ some (map (capped now later) t)
+load-entries now later last low [] h k a = last-end later low [] refl
+load-entries now later last low (e ∷ t) h k a =
+    load-entry now later last (length t) low e (savedEntries now t) (h .0) (k .0)
+    ∙ ap (consTo (capped now later e)) (load-entries now later last (idOf e + 1) t (h .1) (above-from (idOf e) t (a .0)) (a .1))
 
-back : (s : State) (now : ℕ) → Valid s → load now (saved (s .own) now (s .table)) ≡ some (record { own = s .own; entries = map (capped now) (s .table) })
+back : (s : State) (now later : ℕ) → Valid s → load later (saved (s .own) now (s .table)) ≡ some (record { own = s .own; entries = map (capped now later) (s .table) })
 unfolding saved
-back s now v =
+back s now later v =
     let o : s .own < circle = v .inside .own in
     let e : List ℕ = savedEntries now (s .table) in
     let n : List ℕ = groups (length (s .table)) ++ e in
-    load-on now (groups 1 ++ (groups (s .own) ++ n)) 1 (groups (s .own) ++ n) (read-written 1 1 (groups (s .own) ++ n) (omega arith))
-    ∙ edition-on now (groups (s .own) ++ n) (s .own) n (read-written wide (s .own) n (omega arith))
-    ∙ own-on now n (s .own) (length (s .table)) e (read-written mostNodes (length (s .table)) e (v .inside .table .nodes))
-    ∙ count-fine now e (s .own) (length (s .table)) (map (capped now) (s .table)) (some-held (s .own) (s .table) (v .inside .table .held))
-    (load-entries now (s .last) 0 (s .table) (v .inside .table .entries) (all-from (s .table)) (v .inside .table .ascending)) (own-capped (s .own) now (s .table) (v .inside .table .held))
+    load-on later (groups 1 ++ (groups (s .own) ++ n)) 1 (groups (s .own) ++ n) (read-written 1 1 (groups (s .own) ++ n) (omega arith))
+    ∙ edition-on later (groups (s .own) ++ n) (s .own) n (read-written wide (s .own) n (omega arith))
+    ∙ own-on later n (s .own) (length (s .table)) e (read-written mostNodes (length (s .table)) e (v .inside .table .nodes))
+    ∙ count-fine later e (s .own) (length (s .table)) (map (capped now later) (s .table)) (some-held (s .own) (s .table) (v .inside .table .held))
+    (load-entries now later (s .last) 0 (s .table) (v .inside .table .entries) (all-from (s .table)) (v .inside .table .ascending)) (own-capped (s .own) now later (s .table) (v .inside .table .held))
 
 -- ---- whatever loads fits the invariant, and was written so
 

@@ -19,7 +19,7 @@ use Rattle.base.proofs.Signed.{sum-append, sum-both, sum-zeros}
 use Rattle.wire.specs.declared.row.Header.{Header}
 use Rattle.wire.specs.Row.{typeOf, valueOf, row, tlvs}
 use Rattle.wire.specs.Order.{good}
-use Rattle.wire.specs.Payment.{Payment, paymentTlv, readPayment, Payable}
+use Rattle.wire.specs.Payment.{Payment, mostHousehold, paymentTlv, readPayment, Payable}
 use Rattle.wire.specs.Answers.{Tells}
 use Rattle.wire.proofs.Rows.{tlvs-end}
 use Rattle.wire.proofs.Good.{row-joined, good-fits, good-row, tlvs-few}
@@ -30,10 +30,10 @@ use Rattle.model.specs.Table.{Entry, Statement, idOf, statements}
 use Rattle.model.specs.Reach.{inReach, reached}
 use Rattle.model.specs.State.{State}
 use Rattle.model.specs.Invariant.{EntryFits, Valid}
-use Rattle.model.specs.Totals.{isPayment, paymentsIn, readable, unreadable, amounts, totalOf, sumOf, reachable}
+use Rattle.model.specs.Totals.{isPayment, paymentsIn, readable, unreadable, amounts, totalOf, sumOf, reachable, total, sum}
 use Rattle.base.proofs.Options.{by-option}
 use Rattle.base.proofs.Lists.{map-append, join-append, keep-append, all-keep, all-take, keep-few, map-same}
-use Rattle.model.specs.Theorems.{upFrom, TotalsAddUp}
+use Rattle.model.specs.Theorems.{upFrom, amountFor, unreadableOne, sumℕ, TotalsAddUp}
 
 -- ---- the payment TLVs, node by node and TLV by TLV
 
@@ -375,22 +375,61 @@ households-add-up k n (p ∷ ps) h =
     ∙ sum-both own (totalFrom ps) (upFrom k n)
     ∙ rw (once-among k n (p .household) (p .amount) (h .0 .0) (h .0 .1), households-add-up k n ps (h .1))
 
-payable-households : (ps : List Payment) → All Payable ps → All (λ p. (1 ≤ p .household) × (p .household < 1 + 9999)) ps
+payable-households : (ps : List Payment) → All Payable ps → All (λ p. (1 ≤ p .household) × (p .household < 1 + mostHousehold)) ps
 payable-households [] h = tt
 payable-households (p ∷ ps) h = ((h .0 .low, omega (arith, h .0 .high)), payable-households ps (h .1))
 
-all-households : (ss : List Statement) → sumℤ (map (λ h. totalOf h ss) (upFrom 9999 1)) ≡ sumOf ss
+all-households : (ss : List Statement) → sumℤ (map (λ h. totalOf h ss) (upFrom mostHousehold 1)) ≡ sumOf ss
 unfolding totalOf sumOf
 all-households ss =
-    households-add-up 9999 1 (readable (paymentsIn ss)) (payable-households (readable (paymentsIn ss)) (readable-payable (paymentsIn ss)))
+    households-add-up mostHousehold 1 (readable (paymentsIn ss)) (payable-households (readable (paymentsIn ss)) (readable-payable (paymentsIn ss)))
+
+-- ---- TLV by TLV: what each has for a household, and whether it is unreadable
+
+tally-each : (h : ℕ) (ts : List (List ℕ)) → tally (ofHousehold h) (keep isPayment ts) ≡ sumℤ (map (amountFor h) ts)
+tally-each h [] = tally-none (ofHousehold h)
+tally-each h (t ∷ ts) =
+    let f : Payment → Bool = ofHousehold h in
+    let us : List (List ℕ) = keep isPayment ts in
+    let v : ℤ = sumℤ (map (amountFor h) ts) in
+    let ih : tally f us ≡ v = tally-each h ts in
+    by-test (isPayment t)
+    (λ b. rw b
+    (by-option (readPayment (valueOf t))
+    (λ e. rw e (tally-unreadable f t us e ∙ ih ∙ sym (+ℤ-idl v)))
+    (λ p e. rw e
+    (by-test (ofHousehold h p)
+    (λ q. rw q (tally-pick f t us p e q ∙ ap (λ (x : ℤ). p .amount +ℤ x) ih))
+    (λ q. rw q (tally-pass f t us p e q ∙ ih ∙ sym (+ℤ-idl v)))))))
+    (λ b. rw b (ih ∙ sym (+ℤ-idl v)))
+
+unreadable-each : (ts : List (List ℕ)) → unreadable (keep isPayment ts) ≡ sumℕ (map unreadableOne ts)
+unfolding unreadable
+unreadable-each [] = refl
+unreadable-each (t ∷ ts) =
+    let ih : unreadable (keep isPayment ts) ≡ sumℕ (map unreadableOne ts) = unreadable-each ts in
+    by-test (isPayment t)
+    (λ b. rw b (by-option (readPayment (valueOf t)) (λ e. rw e (omega arith)) (λ p e. rw e (omega arith))))
+    (λ b. rw b (omega arith))
+
+payments-node : (s : Statement) → paymentsIn (s ∷ []) ≡ paymentsOf (s .nodeData)
+unfolding paymentsIn
+payments-node s = append-nil (paymentsOf (s .nodeData))
 
 pub totals-add-up : TotalsAddUp
+unfolding total sum
 totals-add-up =
     record {
+      node = λ h s. rw (total-is h (s ∷ []), payments-node s) (tally-each h (tlvs (s .nodeData)));
+      nodes = λ h s ss. total-nodes h (s ∷ []) ss;
       all = all-households;
       total = λ s now h v. rw (total-is h (reachable now s)) (tally-fits (ofHousehold h) s now v);
       sum = λ s now v. rw (sum-is (reachable now s)) (tally-fits anyPayment s now v);
       single = λ h node seq p k. total-single p k (record { node = node; seq = seq; nodeData = paymentTlv p }) refl h;
+      unread = λ s. rw (payments-node s) (unreadable-each (tlvs (s .nodeData)));
+      unreads = λ s ss. ap unreadable (payments-append (s ∷ []) ss) ∙ unreadable-append (paymentsIn (s ∷ [])) (paymentsIn ss);
       counted = payments-counted;
       count = λ s now v. omega (arith, payments-counted (paymentsIn (reachable now s)), payments-most s now v);
+      totals = λ now h table s e. rw e;
+      sums = λ now table s e. rw e;
     }

@@ -1,4 +1,4 @@
--- Reachable as the demands have it: a chain of joined nodes from our own (document 01, demand 2's wording). Assumes nothing.
+-- Reachable as demand 2 has it: a chain of joined nodes from our own; document 01 has the levels of Reach. Assumes nothing.
 use mathlib.Core.Path.{_≡_}
 use mathlib.Core.Bool.{true}
 use mathlib.Core.List.{List}

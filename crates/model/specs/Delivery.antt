@@ -1,4 +1,5 @@
--- Demand 3: over whole lists of datagram calls the order of delivery loses nothing (document 01, What the promises must carry). Assumes nothing.
+-- Demand 3: over whole lists of datagram calls the order of delivery loses nothing. Document 01, What the promises must carry, says what its words mean.
+-- Assumes nothing.
 use mathlib.Core.Path.{_≡_}
 use mathlib.Core.Bool.{Bool, true, false, cond, _&&_}
 use mathlib.Core.List.{List, [], _∷_, _++_, map}
@@ -25,7 +26,7 @@ use Rattle.model.specs.Invariant.{Valid}
 
 -- ---- what is heard
 
--- "a statement is a Node State .. that carries data, good and with matching H"
+-- document 01: "a statement is a Node State .. that carries data, good and with matching H"
 abbrev pub statementOf : Received → Option Statement
 statementOf r =
     orElse (r .carried) none
@@ -34,7 +35,7 @@ statementOf r =
 abbrev pub statementIn : List ℕ → Option Statement
 statementIn t = cond (eqb (typeOf t) 5 && leb 28 (length (valueOf t))) (statementOf (receivedOf (valueOf t))) none
 
--- "alone in its datagram"
+-- demand 3: "alone in its datagram"
 abbrev pub alone : List (List ℕ) → Option Statement
 alone [] = none
 alone (t ∷ []) = statementIn t
@@ -49,7 +50,7 @@ accepted s c = eqb (receive c s .number) 0
 abbrev pub next : State → Call → State
 next s c = receive c s .state
 
--- "Each call gets what the last one left": the state after a list of calls
+-- demand 3: "Each call gets what the last one left": the state after a list of calls
 unfoldable pub run : State → List Call → State
 run s [] = s
 run s (c ∷ cs) = run (next s c) cs
@@ -58,16 +59,16 @@ abbrev pub bringsIf : Bool → Call → List Statement
 bringsIf true c = orElse (brought c) [] (λ x. x ∷ [])
 bringsIf false c = []
 
--- "heard means in an accepted call"
+-- document 01: "heard means in an accepted call"
 unfoldable pub heard : State → List Call → List Statement
 heard s [] = []
 heard s (c ∷ cs) = bringsIf (accepted s c) c ++ heard (next s c) cs
 
--- "Held means at the start"
+-- document 01: "Held means at the start"
 abbrev pub heldOrHeard : State → List Call → List Statement
 heldOrHeard s cs = statements (s .table) ++ heard s cs
 
--- ---- the premises, in the demand's own words
+-- ---- the premises, in demand 3's own words
 
 pub record Brings (own : ℕ) (c : Call) : Type 0 where
   pub statement : Statement
@@ -94,16 +95,16 @@ pub record Premises (s : State) (cs : List Call) : Type 0 where
   -- "any state and table our calls can leave"
   pub valid : Valid s
   pub lone : Lone s cs
-  -- "Let all boxes held or heard number 32 at most"
+  -- "Let all boxes held or heard number 32 at most": the demand's own figure, not the table's, so that a table of 31 is refused
   pub few : length (distinct (map (λ x. x .node) (heldOrHeard s cs))) ≤ 32
   pub close : (n : ℕ) → Close (heldOrHeard s cs) n
   -- "let one number never have two sets of data"
   pub single : (x y : Statement) → In x (heldOrHeard s cs) → In y (heldOrHeard s cs) → x .node ≡ y .node → x .seq ≡ y .seq → x .nodeData ≡ y .nodeData
 
--- ---- the claims
+-- ---- the claims, in demand 3's own words
 
 -- "the table afterwards holds exactly the boxes held or heard, each with its newest statement": of the statements in P,
--- "the number .. that its other numbers are all older than, and that number's data"
+-- document 01's "number .. that its other numbers are all older than, and that number's data"
 pub record Holds (P : Statement → Type 0) (t : List Entry) : Type 0 where
   pub ascending : Ascending idOf t
   pub from : (e : Entry) → In e t → P (e .says)

@@ -28,11 +28,15 @@ names n theirs ours = peerTlv (record { node = n; theirs = theirs; ours = ours; 
 abbrev pub aged : ℕ → ℕ → List (List ℕ) → Entry
 aged n age ts = entryOf n 0 (joinAll ts) age 0
 
+-- whether B is out of A's reach, where each publishes one TLV
+abbrev pub out : List ℕ → List ℕ → Bool
+out a b = not (inReach 1 0 (aged 1 0 (a ∷ []) ∷ aged 2 0 (b ∷ []) ∷ []) 2)
+
 -- A - B - C, where B has the age given
 abbrev pub line : ℕ → List Entry
 line age = aged 1 0 (names 2 1 1 ∷ []) ∷ aged 2 age (names 1 1 1 ∷ names 3 1 2 ∷ []) ∷ aged 3 0 (names 2 2 1 ∷ []) ∷ []
 
--- a row for each example
+-- a row for each example: in 10 B, and then A, names a third node instead; in 11 one endpoint differs, and then the other
 unfoldable pub examples : List Bool
 examples =
     older 0 1 ∷
@@ -44,8 +48,8 @@ examples =
     eqb (folded (negsuc 2147483647)) 4294967295 ∷
     same (encode 123 (0x78 ∷ [])) (0 ∷ 0x7B ∷ 0 ∷ 1 ∷ 0x78 ∷ 0 ∷ 0 ∷ 0 ∷ []) ∷
     same (paymentTlv (record { household = 17; receipt = 300; amount = pos 1250 })) (drop 7 sample) ∷
-    not (inReach 1 0 (aged 1 0 (names 2 1 1 ∷ []) ∷ aged 2 0 [] ∷ []) 2) ∷
-    not (inReach 1 0 (aged 1 0 (names 2 1 1 ∷ []) ∷ aged 2 0 (names 1 2 1 ∷ []) ∷ []) 2) ∷
+    (out (names 2 1 1) (names 3 1 1) && out (names 3 1 1) (names 1 1 1)) ∷
+    (out (names 2 1 1) (names 1 2 1) && out (names 2 1 1) (names 1 1 2)) ∷
     ((inReach 1 0 (line 4294934528) 2 && not (inReach 1 0 (line 4294934528) 3)) && inReach 1 0 (line 4294934527) 3) ∷
     (not (silentFor usualInterval 41999) && silentFor usualInterval 42000) ∷
     []

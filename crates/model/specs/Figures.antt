@@ -11,6 +11,10 @@ dataLimit = 1024
 abbrev pub tableBytes : ℕ
 tableBytes = mostNodes * dataLimit
 
+-- endpoints, numbered from 1 on, and peers over all of them
+abbrev pub mostEndpoints : ℕ
+mostEndpoints = 4
+
 abbrev pub mostPeers : ℕ
 mostPeers = 16
 

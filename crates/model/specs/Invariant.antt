@@ -9,7 +9,7 @@ use Rattle.base.specs.Lists.{any, isSome, In, All}
 use Rattle.base.specs.Sorted.{Ascending}
 use Rattle.wire.specs.Row.{typeOf, tlvs}
 use Rattle.wire.specs.Order.{good}
-use Rattle.model.specs.Figures.{mostNodes, dataLimit, mostPeers, lastReading, mostCount, mostAge, requestGap}
+use Rattle.model.specs.Figures.{mostNodes, dataLimit, mostEndpoints, mostPeers, lastReading, mostCount, mostAge, requestGap}
 use Rattle.model.specs.Sequence.{circle}
 use Rattle.model.specs.Table.{Entry, idOf, look}
 use Rattle.model.specs.Digest.{networkDigest}
@@ -30,7 +30,7 @@ pub record PeerFits (own last : ℕ) (p : Peer) : Type 0 where
   pub node : p .node < circle
   pub theirs : p .theirs < circle
   pub first : 1 ≤ p .ours
-  pub fourth : p .ours ≤ 4
+  pub fourth : p .ours ≤ mostEndpoints
   pub foreign : ¬ (p .node ≡ own)
   pub contact : p .contact ≤ last
 
@@ -73,7 +73,7 @@ abbrev pub Linked : List ℕ → List Peer → Type 0
 Linked d ps = (t : List ℕ) → (In t (tlvs d) × (typeOf t ≡ 8)) ↔ In t (map peerTlv ps)
 
 pub record EndpointsFit (now : ℕ) (es : List Endpoint) : Type 0 where
-  pub four : length es ≡ 4
+  pub four : length es ≡ mostEndpoints
   pub all : All (EndpointFits now) es
 
 -- what holds of the state within a call at the reading now
@@ -84,7 +84,7 @@ pub record Midway (now : ℕ) (s : State) : Type 0 where
   pub links : Linked (ownData s) (s .peers)
   pub endpoints : EndpointsFit now (s .endpoints)
 
--- what holds of it between calls: the same at the last reading, and "the stored digest is the network digest at the last reading"
+-- what holds of it between calls: the same at the last reading, and the stored digest is the network digest at that reading
 pub record Valid (s : State) : Type 0 where
   pub inside : Midway (s .last) s
   pub last : s .last ≤ lastReading

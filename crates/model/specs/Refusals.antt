@@ -7,8 +7,8 @@ use lib.Dec.{ltb, leb}
 use Rattle.base.specs.Lists.{isSome}
 use Rattle.wire.specs.Row.{isRow, tlvs}
 use Rattle.wire.specs.Order.{among}
-use Rattle.wire.specs.Payment.{Payment, paymentTlv}
-use Rattle.model.specs.Figures.{lastReading, tableBytes, mostBytes, snapshotBytes, dataLimit}
+use Rattle.wire.specs.Payment.{Payment, mostHousehold, paymentTlv}
+use Rattle.model.specs.Figures.{mostEndpoints, lastReading, tableBytes, mostBytes, dataLimit}
 use Rattle.model.specs.Table.{look}
 use Rattle.model.specs.State.{State, ownData}
 
@@ -32,7 +32,7 @@ back now s = record { number = 2; applies = ltb now (s .last) }
 
 -- 3: "endpoint not 1 to 4"
 abbrev pub noSuchEndpoint : ℕ → Row
-noSuchEndpoint i = record { number = 3; applies = not (leb 1 i && leb i 4) }
+noSuchEndpoint i = record { number = 3; applies = not (leb 1 i && leb i mostEndpoints) }
 
 -- 4: "a lent buffer is below its figure": the table memory alone, or with the room for what is sent or saved
 abbrev pub smallTable : ℕ → Row
@@ -50,7 +50,7 @@ noRow datagram = record { number = 6; applies = not (isRow datagram) }
 
 -- 7: "household outside 1 to 9,999"
 abbrev pub noHousehold : ℕ → Row
-noHousehold h = record { number = 7; applies = not (leb 1 h && leb h 9999) }
+noHousehold h = record { number = 7; applies = not (leb 1 h && leb h mostHousehold) }
 
 -- 8: "this very payment stands in our data already"; 9: "the payment doesn't fit in our 1,024 bytes"
 abbrev pub paidAlready : Payment → State → Row

@@ -1,36 +1,41 @@
--- What is proved of the definitions, one statement each; the proofs are in proofs/. Demand 3 is in Delivery. Assumes nothing.
+-- What is proved of the definitions, one statement each; the proofs are in proofs/. First the theorems 1 to 8, of which 3 stands in Delivery, then what
+-- is proved of single rules. Assumes nothing.
 use mathlib.Core.Path.{_≡_}
 use mathlib.Core.Bool.{Bool, true, false, cond}
 use mathlib.Core.List.{List, [], _∷_, _++_, map}
 use mathlib.Core.Option.{Option, none, some}
 use mathlib.Core.Logic.{_⊎_, _↔_}
 use Prim.Native.Nat.{ℕ, zero, suc, _+_, _≤_, _<_, _^_, min}
-use lib.ListN.{length, take, drop}
-use lib.IntN.{ℤ, pos}
+use lib.ListN.{length, take, drop, replicate}
+use lib.IntN.{ℤ, pos, _+ℤ_}
 use lib.Dec.{eqb}
 use lib.Signed.{mag}
-use Rattle.base.specs.Lists.{all, joinAll, In}
-use Rattle.base.specs.Bytes.{Bytes, u32At, same}
+use Rattle.base.specs.Lists.{all, joinAll, orElse, In, All}
+use Rattle.base.specs.Bytes.{Bytes, u32At, big32, same}
 use Rattle.base.specs.Signed.{sumℤ}
-use Rattle.wire.specs.Row.{row, typeOf}
-use Rattle.wire.specs.Payment.{Payment, Payable, paymentTlv}
+use Rattle.base.specs.Sorted.{Ascending}
+use Rattle.wire.specs.Row.{row, typeOf, valueOf, tlvs}
+use Rattle.wire.specs.Payment.{Payment, Payable, mostHousehold, paymentTlv, readPayment}
 use Rattle.sha256.specs.Sha256.{hash16}
-use Rattle.model.specs.Figures.{mostBytes, snapshotBytes, mostAge, lastReading}
+use Rattle.model.specs.Figures.{mostNodes, mostEndpoints, mostBytes, snapshotBytes, mostAge, lastReading}
 use Rattle.model.specs.Sequence.{circle}
-use Rattle.model.specs.Table.{Entry, Statement, idOf, entryOf, ageAt, look}
+use Rattle.model.specs.Table.{Entry, Statement, idOf, entryOf, ageAt, look, put}
 use Rattle.model.specs.Reach.{Vertex, vertices, levels, inReach, reached}
 use Rattle.model.specs.Chain.{Chain}
+use Rattle.model.specs.Digest.{networkDigest}
 use Rattle.model.specs.Trickle.{Trickle}
-use Rattle.model.specs.State.{State, Endpoint}
+use Rattle.model.specs.State.{State, Endpoint, endpointAt, settle}
 use Rattle.model.specs.Messages.{endpointTlv, shortState, wholeState}
-use Rattle.model.specs.Decide.{Decision, receivedOf, decide}
-use Rattle.model.specs.Handle.{Context, Work, oneTlv, allTlvs, onNetwork, digestNow}
+use Rattle.model.specs.Decide.{Received, Decision, receivedOf, decide}
+use Rattle.model.specs.Handle.{Context, Sender, Work, piece, reply, askNetwork, roomForPeer, greet, carryOut, oneTlv, allTlvs, onNetwork, digestNow}
+use Rattle.model.specs.Refusals.{Row, firstOf, late, back, noSuchEndpoint, smallTable, smallRoom, long, noRow, noHousehold, paidAlready, full, noSuchNode}
 use Rattle.model.specs.Begin.{begin, blank}
-use Rattle.model.specs.Receive.{Call, receive}
+use Rattle.model.specs.Receive.{Call, contextOf, startOf, receive}
 use Rattle.model.specs.Tick.{tick, ticked}
 use Rattle.model.specs.Pay.{pay, purge}
-use Rattle.model.specs.Totals.{totalOf, sumOf, paymentsIn, readable, unreadable, reachable}
-use Rattle.model.specs.Snapshot.{Snapshot, saved, load, resume}
+use Rattle.model.specs.Totals.{isPayment, totalOf, sumOf, paymentsIn, readable, unreadable, reachable, refusalTotal, total, refusalSum, sum}
+use Rattle.model.specs.Show.{marks, refusalShow, shown}
+use Rattle.model.specs.Snapshot.{Snapshot, saved, save, load, noSnapshot, resume}
 use Rattle.model.specs.Invariant.{Valid, SnapshotFits}
 use Rattle.model.specs.Examples.{examples}
 
@@ -39,64 +44,79 @@ pub record MarkedExamples : Type 0 where
   pub hold : all (λ b. b) examples ≡ true
   pub number : length examples ≡ 13
 
--- 2. Reachable by levels exactly when there is a chain of mutual Peer TLVs, joined endpoint to endpoint, from our own node, every node on it
--- but the last under the age limit. After the first level there are at most nodes less one.
+-- 2. Reachable by levels, as document 01 has it, exactly when there is a chain as demand 2 has it: mutual Peer TLVs, joined endpoint to endpoint, from
+-- our own node, every node on it but the last under the age limit. The reachable entries are those of the table, in its order. After the first level there are at most nodes less one.
 abbrev pub Chained : ℕ → ℕ → List Entry → ℕ → Type 0
 Chained own now t n = (k : ℕ) × (v : Vertex) × Chain own (vertices now t) k v × (v .says .node ≡ n)
 
 pub record LevelsAreChains : Type 0 where
   pub same : (own now : ℕ) (t : List Entry) (n : ℕ) → (inReach own now t n ≡ true) ↔ Chained own now t n
+  pub entries : (own now : ℕ) (t : List Entry) (e : Entry) → In e (reached own now t) ↔ (In e t × (inReach own now t (idOf e) ≡ true))
+  pub sorted : (own now : ℕ) (t : List Entry) → Ascending idOf t → Ascending idOf (reached own now t)
   pub few : (s : State) (now : ℕ) → Valid s → length (levels (s .own) (vertices now (s .table))) + 1 ≤ length (s .table)
 
--- 4. The invariant holds at first, and every call keeps it, refused or not.
+-- 3. The order of delivery loses nothing (demand 3): OrderLosesNothing, in Delivery.
+
+-- 4. The invariant holds at first, and every call keeps it, refused or not. That the bytes of a datagram are bytes, that there are four random numbers
+-- and that an identifier has 32 bits is what the types of the calls' arguments give.
 pub record InvariantKept : Type 0 where
   pub first : Valid blank
-  pub begins : (own now : ℕ) (rs : List ℕ) (table : ℕ) (s : State) → own < circle → length rs ≡ 4 → Valid s → Valid (begin own now rs table s .state)
-  pub resumes : (now : ℕ) (bytes rs : List ℕ) (table : ℕ) (s : State) → length rs ≡ 4 → Valid s → Valid (resume now bytes rs table s .state)
+  pub begins : (own now : ℕ) (rs : List ℕ) (table : ℕ) (s : State) → own < circle → length rs ≡ mostEndpoints → Valid s → Valid (begin own now rs table s .state)
+  pub resumes : (now : ℕ) (bytes rs : List ℕ) (table : ℕ) (s : State) → length rs ≡ mostEndpoints → Valid s → Valid (resume now bytes rs table s .state)
   pub receives : (c : Call) (s : State) → Bytes (c .datagram) → Valid s → Valid (receive c s .state)
   pub ticks : (now i : ℕ) (rs : List ℕ) (table room : ℕ) (s : State) → Valid s → Valid (tick now i rs table room s .state)
   pub pays : (now : ℕ) (p : Payment) (rs : List ℕ) (table : ℕ) (s : State) → Valid s → Valid (pay now p rs table s .state)
   pub purges : (now : ℕ) (rs : List ℕ) (table : ℕ) (s : State) → Valid s → Valid (purge now rs table s .state)
 
--- A refusal changes no state.
-pub record RefusalsChangeNothing : Type 0 where
-  pub begins : (own now : ℕ) (rs : List ℕ) (table : ℕ) (s : State) → ¬ (begin own now rs table s .number ≡ 0) → begin own now rs table s .state ≡ s
-  pub resumes : (now : ℕ) (bytes rs : List ℕ) (table : ℕ) (s : State) → ¬ (resume now bytes rs table s .number ≡ 0) → resume now bytes rs table s .state ≡ s
-  pub receives : (c : Call) (s : State) → ¬ (receive c s .number ≡ 0)
-      → receive c s ≡ record { number = receive c s .number; state = s; bytes = []; omitted = 0; dropped = 0 }
-  pub ticks : (now i : ℕ) (rs : List ℕ) (table room : ℕ) (s : State) → ¬ (tick now i rs table room s .number ≡ 0)
-      → tick now i rs table room s ≡ record { number = tick now i rs table room s .number; state = s; bytes = [] }
-  pub pays : (now : ℕ) (p : Payment) (rs : List ℕ) (table : ℕ) (s : State) → ¬ (pay now p rs table s .number ≡ 0) → pay now p rs table s .state ≡ s
-  pub purges : (now : ℕ) (rs : List ℕ) (table : ℕ) (s : State) → ¬ (purge now rs table s .number ≡ 0) → purge now rs table s .state ≡ s
-
--- 5. Saving then loading gives back what was saved, ages capped; a snapshot fits its room; whatever loads is what saving its content writes, and
--- holds our own node, identifiers strictly ascending and good data.
-abbrev pub capped : ℕ → Entry → Entry
-capped now e = entryOf (idOf e) (e .says .seq) (e .says .nodeData) (min (ageAt now e) mostAge) now
+-- 5. Saving at one reading and loading at another gives back what was saved, ages capped and counted on from the second; a snapshot fits its
+-- room; whatever loads is what saving its content writes, and holds our own node, identifiers strictly ascending and good data.
+abbrev pub capped : ℕ → ℕ → Entry → Entry
+capped now later e = entryOf (idOf e) (e .says .seq) (e .says .nodeData) (min (ageAt now e) mostAge) later
 
 pub record Snapshots : Type 0 where
-  pub back : (s : State) (now : ℕ) → Valid s → load now (saved (s .own) now (s .table)) ≡ some (record { own = s .own; entries = map (capped now) (s .table) })
+  pub back : (s : State) (now later : ℕ) → Valid s
+      → load later (saved (s .own) now (s .table)) ≡ some (record { own = s .own; entries = map (capped now later) (s .table) })
   pub room : (s : State) (now : ℕ) → Valid s → length (saved (s .own) now (s .table)) ≤ snapshotBytes
   pub once : (now : ℕ) (bytes : List ℕ) (b : Snapshot) → Bytes bytes → load now bytes ≡ some b → bytes ≡ saved (b .own) now (b .entries)
   pub fits : (now : ℕ) (bytes : List ℕ) (b : Snapshot) → load now bytes ≡ some b → SnapshotFits now b
 
 -- 6. After two ticks at one reading nothing further is due on that endpoint: a third sends nothing and changes nothing.
 pub record TwoTicks : Type 0 where
-  pub rest : (s : State) (now i : ℕ) (p q r : List ℕ) → Valid s → s .last ≤ now → now ≤ lastReading → 1 ≤ i → i ≤ 4 →
+  pub rest : (s : State) (now i : ℕ) (p q r : List ℕ) → Valid s → s .last ≤ now → now ≤ lastReading → 1 ≤ i → i ≤ mostEndpoints →
       let b : State = ticked now i q (ticked now i p s .state) .state in
       ticked now i r b ≡ record { number = 0; state = b; bytes = [] }
 
--- 7. The sum over all households is the sum of every readable payment of the reachable nodes; a payment counts for its household with its
--- amount; each payment is readable or counted as unreadable; sums lie within 64 signed bits and the count is small, from the room there is.
+-- 7. An accepted call answers with the total, or the sum, and the count of the reachable nodes. A total is the sum over all their TLVs of what each
+-- has for the household: the amount of a readable payment, else nothing. The count is of the unreadable payments among these TLVs. The sum over all
+-- households is the sum of every readable payment; a payment counts for its household with its amount; each payment is readable or counted as
+-- unreadable; sums lie within 64 signed bits and the count is small, from the room there is.
 unfoldable pub upFrom : ℕ → ℕ → List ℕ
 upFrom zero n = []
 upFrom (suc k) n = n ∷ upFrom k (n + 1)
 
+abbrev pub amountFor : ℕ → List ℕ → ℤ
+amountFor h t = cond (isPayment t) (orElse (readPayment (valueOf t)) (pos 0) (λ p. cond (eqb (p .household) h) (p .amount) (pos 0))) (pos 0)
+
+abbrev pub unreadableOne : List ℕ → ℕ
+unreadableOne t = cond (isPayment t) (orElse (readPayment (valueOf t)) 1 (λ p. 0)) 0
+
+abbrev pub sumℕ : List ℕ → ℕ
+sumℕ [] = 0
+sumℕ (n ∷ ns) = n + sumℕ ns
+
 pub record TotalsAddUp : Type 0 where
-  pub all : (ss : List Statement) → sumℤ (map (λ h. totalOf h ss) (upFrom 9999 1)) ≡ sumOf ss
+  pub totals : (now h table : ℕ) (s : State) → refusalTotal now h table s ≡ 0
+      → total now h table s ≡ record { number = 0; value = totalOf h (reachable now s); unread = unreadable (paymentsIn (reachable now s)) }
+  pub sums : (now table : ℕ) (s : State) → refusalSum now table s ≡ 0
+      → sum now table s ≡ record { number = 0; value = sumOf (reachable now s); unread = unreadable (paymentsIn (reachable now s)) }
+  pub node : (h : ℕ) (s : Statement) → totalOf h (s ∷ []) ≡ sumℤ (map (amountFor h) (tlvs (s .nodeData)))
+  pub nodes : (h : ℕ) (s : Statement) (ss : List Statement) → totalOf h (s ∷ ss) ≡ totalOf h (s ∷ []) +ℤ totalOf h ss
+  pub all : (ss : List Statement) → sumℤ (map (λ h. totalOf h ss) (upFrom mostHousehold 1)) ≡ sumOf ss
   pub total : (s : State) (now h : ℕ) → Valid s → mag (totalOf h (reachable now s)) < 2 ^ 63
   pub sum : (s : State) (now : ℕ) → Valid s → mag (sumOf (reachable now s)) < 2 ^ 63
   pub single : (h node seq : ℕ) (p : Payment) → Payable p → totalOf h (record { node = node; seq = seq; nodeData = paymentTlv p } ∷ []) ≡ cond (eqb (p .household) h) (p .amount) (pos 0)
+  pub unread : (s : Statement) → unreadable (paymentsIn (s ∷ [])) ≡ sumℕ (map unreadableOne (tlvs (s .nodeData)))
+  pub unreads : (s : Statement) (ss : List Statement) → unreadable (paymentsIn (s ∷ ss)) ≡ unreadable (paymentsIn (s ∷ [])) + unreadable (paymentsIn ss)
   pub counted : (ts : List (List ℕ)) → length (readable ts) + unreadable ts ≡ length ts
   pub count : (s : State) (now : ℕ) → Valid s → unreadable (paymentsIn (reachable now s)) ≤ 8192
 
@@ -109,22 +129,107 @@ pub record SentForm : Type 0 where
   pub receives : (c : Call) (s : State) → Form (s .own) (c .endpoint) (receive c s .bytes)
   pub ticks : (now i : ℕ) (rs : List ℕ) (table room : ℕ) (s : State) → Form (s .own) i (tick now i rs table room s .bytes)
 
--- Each TLV at its turn: a row is handled TLV by TLV, each from what the one before left.
+-- ---- single rules
+
+-- A refusal changes no state, and its answer has the number alone: all else is 0 or empty.
+pub record RefusalsChangeNothing : Type 0 where
+  pub begins : (own now : ℕ) (rs : List ℕ) (table : ℕ) (s : State) → ¬ (begin own now rs table s .number ≡ 0) → begin own now rs table s .state ≡ s
+  pub resumes : (now : ℕ) (bytes rs : List ℕ) (table : ℕ) (s : State) → ¬ (resume now bytes rs table s .number ≡ 0) → resume now bytes rs table s .state ≡ s
+  pub receives : (c : Call) (s : State) → ¬ (receive c s .number ≡ 0)
+      → receive c s ≡ record { number = receive c s .number; state = s; bytes = []; omitted = 0; dropped = 0 }
+  pub ticks : (now i : ℕ) (rs : List ℕ) (table room : ℕ) (s : State) → ¬ (tick now i rs table room s .number ≡ 0)
+      → tick now i rs table room s ≡ record { number = tick now i rs table room s .number; state = s; bytes = [] }
+  pub pays : (now : ℕ) (p : Payment) (rs : List ℕ) (table : ℕ) (s : State) → ¬ (pay now p rs table s .number ≡ 0) → pay now p rs table s .state ≡ s
+  pub purges : (now : ℕ) (rs : List ℕ) (table : ℕ) (s : State) → ¬ (purge now rs table s .number ≡ 0) → purge now rs table s .state ≡ s
+  pub totals : (now h table : ℕ) (s : State) → ¬ (total now h table s .number ≡ 0)
+      → total now h table s ≡ record { number = total now h table s .number; value = pos 0; unread = 0 }
+  pub sums : (now table : ℕ) (s : State) → ¬ (sum now table s .number ≡ 0) → sum now table s ≡ record { number = sum now table s .number; value = pos 0; unread = 0 }
+  pub marking : (now table : ℕ) (s : State) → ¬ (marks now table s .number ≡ 0)
+      → marks now table s ≡ record { number = marks now table s .number; nodes = []; digest = replicate 16 0 }
+  pub saves : (now table room : ℕ) (s : State) → ¬ (save now table room s .number ≡ 0) → save now table room s ≡ record { number = save now table room s .number; bytes = [] }
+  pub shows : (n table : ℕ) (s : State) → ¬ (refusalShow n table s ≡ 0) → shown n table s ≡ []
+
+-- The refusal table is exact (demand 2): a call answers 0 exactly if no row of its table applies, and a row's number exactly if that row applies and none before
+-- it does. A node's data is shown without a number, which a second call gives.
+pub record Exact (n : ℕ) (rows : List Row) : Type 0 where
+  pub answered : n ≡ firstOf rows
+  pub none : (n ≡ 0) ↔ All (λ r. r .applies ≡ false) rows
+  pub first : (earlier : List Row) (r : Row) (later : List Row) → rows ≡ earlier ++ (r ∷ later)
+      → (n ≡ r .number) ↔ (All (λ q. q .applies ≡ false) earlier × (r .applies ≡ true))
+
+pub record RefusalsExact : Type 0 where
+  pub begins : (own now : ℕ) (rs : List ℕ) (table : ℕ) (s : State) → Exact (begin own now rs table s .number) (late now ∷ smallTable table ∷ [])
+  pub resumes : (now : ℕ) (bytes rs : List ℕ) (table : ℕ) (s : State)
+      → Exact (resume now bytes rs table s .number) (late now ∷ smallTable table ∷ noSnapshot now bytes ∷ [])
+  pub receives : (c : Call) (s : State)
+      → Exact (receive c s .number)
+      (late (c .now) ∷ back (c .now) s ∷ noSuchEndpoint (c .endpoint) ∷ smallRoom (c .table) (c .room) mostBytes ∷ long (c .datagram) ∷ noRow (c .datagram) ∷ [])
+  pub ticks : (now i : ℕ) (rs : List ℕ) (table room : ℕ) (s : State)
+      → Exact (tick now i rs table room s .number) (late now ∷ back now s ∷ noSuchEndpoint i ∷ smallRoom table room mostBytes ∷ [])
+  pub pays : (now : ℕ) (p : Payment) (rs : List ℕ) (table : ℕ) (s : State)
+      → Exact (pay now p rs table s .number) (late now ∷ back now s ∷ smallTable table ∷ noHousehold (p .household) ∷ paidAlready p s ∷ full p s ∷ [])
+  pub purges : (now : ℕ) (rs : List ℕ) (table : ℕ) (s : State) → Exact (purge now rs table s .number) (late now ∷ back now s ∷ smallTable table ∷ [])
+  pub totals : (now h table : ℕ) (s : State) → Exact (total now h table s .number) (late now ∷ back now s ∷ smallTable table ∷ noHousehold h ∷ [])
+  pub sums : (now table : ℕ) (s : State) → Exact (sum now table s .number) (late now ∷ back now s ∷ smallTable table ∷ [])
+  pub marking : (now table : ℕ) (s : State) → Exact (marks now table s .number) (late now ∷ back now s ∷ smallTable table ∷ [])
+  pub saves : (now table room : ℕ) (s : State) → Exact (save now table room s .number) (late now ∷ back now s ∷ smallRoom table room snapshotBytes ∷ [])
+  pub shows : (n table : ℕ) (s : State) → Exact (refusalShow n table s) (smallTable table ∷ noSuchNode n s ∷ [])
+
+-- Each TLV at its turn (demand 2): an accepted datagram is handled TLV by TLV, all of its row, each from what the one before left.
 pub record EachAtItsTurn : Type 0 where
   pub one : (c : Context) (t : List ℕ) (w : Work) → allTlvs c (t ∷ []) w ≡ oneTlv c t w
   pub both : (c : Context) (ts us : List (List ℕ)) (w : Work) → allTlvs c (ts ++ us) w ≡ allTlvs c us (allTlvs c ts w)
+  pub call : (c : Call) (s : State) → receive c s .number ≡ 0 →
+      let w : Work = allTlvs (contextOf s c) (tlvs (c .datagram)) (startOf s) in
+      receive c s ≡ record { number = 0; state = settle (c .now) (c .randoms) (w .state); bytes = w .out; omitted = w .omitted; dropped = w .dropped }
 
--- Only reachable nodes are served: every Node State that a TLV's handling writes is about a node reachable at that moment.
+-- The counts are exact (demand 2): a reply is written, or it does not fit and is counted as left out; a request that is held back is neither. A new peer
+-- without room is counted as dropped, and so is a Node State of a new node where 32 are held, which is when a Node State is dropped.
+pub record CountsExact : Type 0 where
+  pub written : (c : Context) (t : List ℕ) (w : Work) → length (w .out) + length (piece c t w) ≤ mostBytes
+      → reply c t w ≡ record { state = w .state; sender = w .sender; out = w .out ++ piece c t w; omitted = w .omitted; dropped = w .dropped }
+  pub omitted : (c : Context) (t : List ℕ) (w : Work) → mostBytes < length (w .out) + length (piece c t w)
+      → reply c t w ≡ record { state = w .state; sender = w .sender; out = w .out; omitted = w .omitted + 1; dropped = w .dropped }
+  pub held : (c : Context) (w : Work) → c .now < endpointAt (c .endpoint) (w .state) .next → askNetwork c w ≡ w
+  pub peers : (c : Context) (f : Sender) (w : Work) → roomForPeer (w .state) ≡ false
+      → greet c f w ≡ record { state = w .state; sender = w .sender; out = w .out; omitted = w .omitted; dropped = w .dropped + 1 }
+  pub nodes : (c : Context) (w : Work)
+      → carryOut c Decision.dropped w ≡ record { state = w .state; sender = w .sender; out = w .out; omitted = w .omitted; dropped = w .dropped + 1 }
+  pub full : (now : ℕ) (t : List Entry) (r : Received) → (decide now t r ≡ Decision.dropped) ↔ ((look (r .node) t ≡ none) × (mostNodes ≤ length t))
+
+-- Only reachable nodes are served: what a TLV's handling writes is a row, and every Node State of it is about a node reachable at that moment.
 pub record Served : Type 0 where
   pub only : (c : Context) (t : List ℕ) (w : Work)
-      → (us : List (List ℕ)) × (oneTlv c t w .out ≡ w .out ++ joinAll us)
+      → (us : List (List ℕ)) × (oneTlv c t w .out ≡ w .out ++ joinAll us) × (row (joinAll us) ≡ some us)
       × ((u : List ℕ) → In u us → typeOf u ≡ 5
       → (e : Entry) × In e (reached (w .state .own) (c .now) (w .state .table)) × ((u ≡ shortState (c .now) e) ⊎ (u ≡ wholeState (c .now) e)))
 
--- A new node that publishes nothing is taken at once from a Node State of 28 bytes, and not asked for again.
+-- What we send of a node reads back: its identifier, its sequence number, its age, at most 2^32 - 1, the digest of its data, and the data itself; sent
+-- without data, a node that publishes nothing still says so. The network digest is H over the numbers and digests of the reachable nodes; of our node
+-- alone it is H over its own.
+pub record StatesReadBack : Type 0 where
+  pub whole : (now : ℕ) (e : Entry)
+      → receivedOf (valueOf (wholeState now e))
+      ≡ record { node = idOf e; seq = e .says .seq; age = min (ageAt now e) mostAge; hash = hash16 (e .says .nodeData); carried = some (e .says .nodeData) }
+  pub short : (now : ℕ) (e : Entry)
+      → receivedOf (valueOf (shortState now e))
+      ≡ record {
+        node = idOf e;
+        seq = e .says .seq;
+        age = min (ageAt now e) mostAge;
+        hash = hash16 (e .says .nodeData);
+        carried = cond (same (hash16 (e .says .nodeData)) (hash16 [])) (some []) none;
+      }
+  pub digest : (own now : ℕ) (t : List Entry)
+      → networkDigest own now t ≡ hash16 (joinAll (map (λ e. big32 (e .says .seq) ++ hash16 (e .says .nodeData)) (reached own now t)))
+  pub alone : (own now : ℕ) (e : Entry) → idOf e ≡ own → networkDigest own now (e ∷ []) ≡ hash16 (big32 (e .says .seq) ++ hash16 (e .says .nodeData))
+
+-- A new node that publishes nothing is taken at once from a Node State of 28 bytes, and not asked for again: once taken, the same Node State is ignored.
 pub record EmptyTaken : Type 0 where
-  pub taken : (now : ℕ) (t : List Entry) (v : List ℕ) → length v ≡ 28 → take 16 (drop 12 v) ≡ hash16 [] → look (u32At v 0) t ≡ none → length t < 32
+  pub taken : (now : ℕ) (t : List Entry) (v : List ℕ) → length v ≡ 28 → take 16 (drop 12 v) ≡ hash16 [] → look (u32At v 0) t ≡ none → length t < mostNodes
       → decide now t (receivedOf v) ≡ Decision.takeAll (entryOf (u32At v 0) (u32At v 4) [] (u32At v 8) now)
+  pub again : (now later : ℕ) (t : List Entry) (v : List ℕ) → length v ≡ 28 → take 16 (drop 12 v) ≡ hash16 []
+      → decide later (put (entryOf (u32At v 0) (u32At v 4) [] (u32At v 8) now) t) (receivedOf v) ≡ Decision.ignored
 
 -- A foreign digest restarts no Trickle interval.
 abbrev pub trickles : State → List Trickle
@@ -132,3 +237,5 @@ trickles s = map (λ (e : Endpoint). e .trickle) (s .endpoints)
 
 pub record ForeignDigestResetsNothing : Type 0 where
   pub kept : (c : Context) (d : List ℕ) (w : Work) → same (digestNow c w) d ≡ false → trickles (onNetwork c d w .state) ≡ trickles (w .state)
+  pub tlv : (c : Context) (t : List ℕ) (w : Work) → typeOf t ≡ 4 → same (digestNow c w) (take 16 (valueOf t)) ≡ false
+      → trickles (oneTlv c t w .state) ≡ trickles (w .state)

@@ -6,4 +6,3 @@ pub mod Varints
 pub mod Folding
 pub mod Payments
 pub mod Encoded
-pub mod Examples

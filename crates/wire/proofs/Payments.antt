@@ -20,7 +20,7 @@ use Rattle.base.specs.Lists.{orElse, All}
 use Rattle.base.specs.Memory.{written}
 use Rattle.wire.specs.Row.{encode, padding, tlvs}
 use Rattle.wire.specs.Groups.{Read, groups, readGroups}
-use Rattle.wire.specs.Payment.{Payment, Payable, folded, unfolded, paymentValue, paymentTlv, most, ended, readPayment}
+use Rattle.wire.specs.Payment.{Payment, Payable, mostHousehold, folded, unfolded, paymentValue, paymentTlv, most, ended, readPayment}
 use Rattle.wire.specs.Answers.{asRead, Inside, asPayment, Tells}
 use Rattle.base.specs.Signed.{sumℤ}
 use Rattle.base.proofs.Tests.{and-left, and-right, and-no, and-both, by-test}
@@ -85,14 +85,14 @@ unfolding ended
 ended-low h r a [] p = rw (lt-leb 1 h p)
 ended-low h r a (b ∷ d) p = refl
 
-pub ended-high : (h r a : ℕ) (d : List ℕ) → 9999 < h → ended h r a d ≡ none
+pub ended-high : (h r a : ℕ) (d : List ℕ) → mostHousehold < h → ended h r a d ≡ none
 unfolding ended
-ended-high h r a [] p = rw (and-no (leb 1 h) (leb h 9999) (lt-leb h 9999 p))
+ended-high h r a [] p = rw (and-no (leb 1 h) (leb h mostHousehold) (lt-leb h mostHousehold p))
 ended-high h r a (b ∷ d) p = refl
 
-pub ended-well : (h r a : ℕ) (d : List ℕ) → length d ≡ 0 → 1 ≤ h → h ≤ 9999 → ended h r a d ≡ some (record { household = h; receipt = r; amount = unfolded a })
+pub ended-well : (h r a : ℕ) (d : List ℕ) → length d ≡ 0 → 1 ≤ h → h ≤ mostHousehold → ended h r a d ≡ some (record { household = h; receipt = r; amount = unfolded a })
 unfolding ended
-ended-well h r a [] e p q = rw (and-both (leb 1 h) (leb h 9999) (le-leb 1 h p) (le-leb h 9999 q))
+ended-well h r a [] e p q = rw (and-both (leb 1 h) (leb h mostHousehold) (le-leb 1 h p) (le-leb h mostHousehold q))
 ended-well h r a (b ∷ d) e p q = absurd (omega arith)
 
 -- ---- what is written reads back
@@ -157,7 +157,7 @@ spelt-end : (v : List ℕ) (h r a : ℕ) (d : List ℕ) → v ≡ groups h ++ (g
 unfolding ended paymentValue
 spelt-end v h r a (b ∷ d) e = tt
 spelt-end v h r a [] e =
-    by-test (leb 1 h && leb h 9999)
+    by-test (leb 1 h && leb h mostHousehold)
     (λ q. rw q (e ∙ rw (fold-unfold a, append-nil (groups a))))
     (λ q. rw q tt)
 
@@ -189,11 +189,11 @@ ended-payable : (h r a : ℕ) (d : List ℕ) (p : Payment) → r ≤ most → a 
 unfolding ended
 ended-payable h r a (b ∷ d) p kr ka e = nothing p e
 ended-payable h r a [] p kr ka e =
-    cond-yes (leb 1 h && leb h 9999) (some (record { household = h; receipt = r; amount = unfolded a })) p e
+    cond-yes (leb 1 h && leb h mostHousehold) (some (record { household = h; receipt = r; amount = unfolded a })) p e
     (λ b q. subst Payable (Option·some-injective _ _ q)
     (record {
-      low = leb-true 1 h (and-left (leb 1 h) (leb h 9999) b);
-      high = leb-true h 9999 (and-right (leb 1 h) (leb h 9999) b);
+      low = leb-true 1 h (and-left (leb 1 h) (leb h mostHousehold) b);
+      high = leb-true h mostHousehold (and-right (leb 1 h) (leb h mostHousehold) b);
       receipt = kr;
       amount = rw (fold-unfold a) ka;
     }))

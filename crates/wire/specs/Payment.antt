@@ -34,9 +34,13 @@ paymentTlv p = encode 40 (paymentValue p)
 abbrev pub most : ℕ
 most = 4294967295
 
+-- "Households 1 to 9,999"
+abbrev pub mostHousehold : ℕ
+mostHousehold = 9999
+
 -- "Nothing may follow the three, and a household outside 1 to 9,999 is unreadable"
 unfoldable pub ended : ℕ → ℕ → ℕ → List ℕ → Option Payment
-ended h r a [] = cond (leb 1 h && leb h 9999) (some (record { household = h; receipt = r; amount = unfolded a })) none
+ended h r a [] = cond (leb 1 h && leb h mostHousehold) (some (record { household = h; receipt = r; amount = unfolded a })) none
 ended h r a (b ∷ s) = none
 
 unfoldable pub readPayment : List ℕ → Option Payment
@@ -47,6 +51,6 @@ readPayment s =
 -- what can be written: every number in its range
 pub record Payable (p : Payment) : Type 0 where
   pub low : 1 ≤ p .household
-  pub high : p .household ≤ 9999
+  pub high : p .household ≤ mostHousehold
   pub receipt : p .receipt ≤ most
   pub amount : folded (p .amount) ≤ most

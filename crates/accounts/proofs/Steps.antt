@@ -1,0 +1,49 @@
+-- A call that changes the table: what the marking asks of the state by then, and the state as it is left. Assumes nothing.
+use mathlib.Core.Path.{sym, ap, subst}
+use mathlib.Core.List.{List}
+use Prim.Native.Nat.{ℕ, _≤_}
+use Rattle.model.specs.Figures.{lastReading}
+use Rattle.model.specs.Table.{Entry}
+use Rattle.model.specs.Reach.{reached}
+use Rattle.model.specs.State.{State as ModelState, withTable, settle}
+use Rattle.model.specs.Pay.{purged}
+use Rattle.model.specs.Invariant.{Midway}
+use Rattle.model.proofs.KeptCalls.{reached-kept}
+use Rattle.table.specs.declared.Table.{Table}
+use Rattle.table.specs.View.{view, Purged}
+use Rattle.reach.specs.declared.Reached.{Reached}
+use Rattle.reach.specs.Marks.{Readable, Reaching}
+use Rattle.reach.proofs.Reaching.{reached-by}
+use Rattle.node.specs.declared.State.{State}
+use Rattle.node.specs.View.{stateOf, Rep, Held, Moved, Settled}
+use Rattle.node.proofs.Parts.{state-held, putTable}
+use Rattle.node.proofs.Moves.{moved-to, moved-then, purged-moved}
+use Rattle.node.proofs.Settling.{settled-moved}
+
+-- within a call the marking may read the table, and our own node stands there
+pub midway-readable : (now : ℕ) (s : State) (m : List ℕ) → Rep s m → Midway now (stateOf s m) → now ≤ lastReading → Readable now (s .table) m × Held s m
+unfolding stateOf
+midway-readable now s m k w l = (record { kept = k .table; entries = w .table .entries; clock = l }, state-held s m (w .table .held))
+
+module _ {now : ℕ} {a : ModelState} {m : List ℕ} {r : State} {m′ : List ℕ} (h : Moved a m r m′) where
+  pub moved-readable : Midway now a → now ≤ lastReading → Readable now (r .table) m′ × Held r m′
+  moved-readable w l = midway-readable now r m′ (h .rep) (subst (Midway now) (sym (h .is)) w) l
+
+  -- and what stands last
+  pub moved-settled : (rs : List ℕ) (x : Reached) (q : State) → Reaching (r .own) now (view (r .table) m′) x → Settled now rs (x .digest) r q → Moved (settle now rs a) m q m′
+  moved-settled rs x q g s = moved-then h (settle now rs) (settled-moved now rs (x .digest) r q m′ s (h .rep) (g .digest))
+
+-- ---- only the reachable nodes stay
+
+module _ (now : ℕ) (s : State) (m : List ℕ) (k : Rep s m) (x : Reached) (g : Reaching (s .own) now (view (s .table) m) x) (t : Table) (o : Purged (x .marks) (s .table) t) where
+  purged-by : Moved (withTable (reached (stateOf s m .own) now (stateOf s m .table)) (stateOf s m)) m (putTable t s) m
+  unfolding stateOf
+  purged-by = moved-to (purged-moved s m k t (x .marks) o) (ap (λ (l : List Entry). withTable l (stateOf s m)) (reached-by (s .own) now (view (s .table) m) (x .marks) (g .marks)))
+
+  pub purged-readable : Midway now (stateOf s m) → now ≤ lastReading → Readable now t m × Held (putTable t s) m
+  purged-readable w l = moved-readable purged-by (reached-kept now (stateOf s m) w) l
+
+  pub purged-settled : (rs : List ℕ) (y : Reached) (q : State) → Reaching (s .own) now (view t m) y → Settled now rs (y .digest) (putTable t s) q
+      → Moved (purged now rs (stateOf s m)) m q m
+  unfolding purged
+  purged-settled rs y q f e = moved-settled purged-by rs y q f e

@@ -1,0 +1,22 @@
+// Purging: only the reachable nodes stay in the table.
+use node::State;
+use node::settle::settle;
+use reach::reach;
+ghost use Prim.Native.Nat.{_≤_};
+ghost use Rattle.model.specs.Figures.{lastReading};
+ghost use Rattle.model.specs.Pay.{purged};
+ghost use Rattle.model.specs.Invariant.{Midway};
+ghost use Rattle.node.specs.View.{stateOf, Rep, Moved};
+
+pub fn purge(s: State, mem: &[u8], clock: u64, randoms: [u32; 4]) -> State
+    requires { ⌜ Rep s (now mem) × (Midway clock (stateOf s (now mem)) × (clock ≤ lastReading)) ⌝ }
+    ensures { λ r. ⌜ Moved (purged clock randoms (stateOf s (now (mem .entry)))) (now (mem .entry)) r (now (mem .entry)) ⌝ }
+{
+    let found = reach(s.table, mem, s.own, clock);
+    let marks = found.marks;
+    let mut t = s;
+    t.table = table::purge(s.table, marks);
+    let again = reach(t.table, mem, t.own, clock);
+    let digest = again.digest;
+    settle(t, clock, randoms, digest)
+}
