@@ -218,3 +218,21 @@ pub all-take : {A : Type 0} (P : A → Type 0) (n : ℕ) (xs : List A) → All P
 all-take P zero xs h = tt
 all-take P (suc n) [] h = tt
 all-take P (suc n) (x ∷ xs) h = (h .0, all-take P n xs (h .1))
+
+module _ {A : Type 0} where
+  -- tests that agree keep the same
+  pub keep-same : (f g : A → Bool) (l : List A) → ((x : A) → f x ≡ g x) → keep f l ≡ keep g l
+  keep-same f g [] h = refl
+  keep-same f g (x ∷ l) h = rw (h x, keep-same f g l h)
+
+  -- a test that always holds keeps all
+  pub keep-every : (f : A → Bool) (l : List A) → ((x : A) → f x ≡ true) → keep f l ≡ l
+  keep-every f [] h = refl
+  keep-every f (x ∷ l) h = rw (h x, keep-every f l h)
+
+  -- one test after the other
+  pub keep-keep : (f g : A → Bool) (l : List A) → keep g (keep f l) ≡ keep (λ x. f x && g x) l
+  keep-keep f g [] = refl
+  keep-keep f g (x ∷ l) =
+      let h : keep g (keep f l) ≡ keep (λ x. f x && g x) l = keep-keep f g l in
+      by-test (f x) (λ b. by-test (g x) (λ e. rw (b, e, h)) (λ e. rw (b, e, h))) (λ b. rw (b, h))

@@ -118,6 +118,29 @@ module _ {A : Type 0} (d : A) where
     pub keep-by-in : getD bs i false ≡ true → keepBy bs (take (i + 1) l) ≡ keepBy bs (take i l) ++ (getD l i d ∷ [])
     keep-by-in b = rw (add-one, by-suc bs l i p, b)
 
+-- whether one is set from place i on
+module _ (bs : List Bool) (i : ℕ) where
+  pub any-end : length bs ≤ i → any (λ b. b) (drop i bs) ≡ false
+  any-end h = rw (drop-of-length-le bs {i = i} h)
+
+  module _ (h : i < length bs) where
+    pub any-here : getD bs i false ≡ true → any (λ b. b) (drop i bs) ≡ true
+    any-here e = rw (drop-cons bs i false h, e)
+
+    pub any-on : getD bs i false ≡ false → any (λ b. b) (drop i bs) ≡ any (λ b. b) (drop (i + 1) bs)
+    any-on e = rw (drop-cons bs i false h, e, add-one i)
+
+module _ {A : Type 0} (d : A) where
+  -- marks by place that are a test, none set past the end: one is set if the test finds one
+  pub any-places : (p : A → Bool) (bs : List Bool) (l : List A) → ((i : ℕ) → i < length l → getD bs i false ≡ p (getD l i d))
+      → ((i : ℕ) → length l ≤ i → getD bs i false ≡ false) → any (λ b. b) bs ≡ any p l
+  any-places p [] [] h n = refl
+  any-places p [] (x ∷ l) h n =
+      rw (sym (h 0 (suc-le-suc zero-le))) (any-places p [] l (λ i k. h (suc i) (suc-le-suc k)) (λ i k. refl))
+  any-places p (b ∷ bs) [] h n = rw (n 0 zero-le) (any-places p bs [] (λ i k. absurd (not-suc-le-zero k)) (λ i k. n (suc i) zero-le))
+  any-places p (b ∷ bs) (x ∷ l) h n =
+      rw (h 0 (suc-le-suc zero-le)) (ap (λ (r : Bool). p x || r) (any-places p bs l (λ i k. h (suc i) (suc-le-suc k)) (λ i k. n (suc i) (suc-le-suc k))))
+
 -- ---- marks set one after the other: those below place i are P's by now, the others still Q's
 
 pub record Filled (P Q : ℕ → Bool) (i : ℕ) (bs : List Bool) : Type 0 where

@@ -2,11 +2,11 @@
 use mathlib.Core.Path.{_≡_, refl, sym, ap, _∙_}
 use mathlib.Core.Bool.{true, cond}
 use mathlib.Core.List.{List, [], _∷_, _++_, map, append-nil}
-use mathlib.Core.Option.{Option, none, some}
+use mathlib.Core.Option.{none, some}
 use mathlib.Core.Logic.{inl}
 use Prim.Native.Nat.{ℕ, min}
 use native.Mathlib.Omega.{arith}
-use lib.ListN.{length, take, drop}
+use lib.ListN.{length}
 use lib.Seq.{take-at, drop-at}
 use Rattle.base.specs.Lists.{joinAll}
 use Rattle.base.specs.Bytes.{u32At, big32, same}
@@ -16,12 +16,12 @@ use Rattle.wire.specs.Row.{valueOf}
 use Rattle.wire.proofs.Encoded.{encode-value}
 use Rattle.wire.proofs.Ordering.{same-self}
 use Rattle.model.specs.Figures.{mostAge}
-use Rattle.model.specs.Table.{Entry, Statement, idOf, ageAt, statements}
+use Rattle.model.specs.Table.{Entry, idOf, ageAt, statements}
 use Rattle.model.specs.Reach.{inReach, reached}
 use Rattle.model.specs.Chain.{here}
 use Rattle.model.specs.Digest.{digestPart, digestOf, networkDigest}
 use Rattle.model.specs.Messages.{stateHead, shortState, wholeState}
-use Rattle.model.specs.Decide.{Received, carriedIn, receivedOf}
+use Rattle.model.specs.Decide.{carriedIn, receivedOf}
 use Rattle.model.specs.Theorems.{StatesReadBack}
 use Rattle.model.proofs.Levels.{chain-reach}
 

@@ -1,9 +1,9 @@
 -- What is proved of the definitions, one statement each; the proofs are in proofs/. First the theorems 1 to 8, of which 3 stands in Delivery, then what
 -- is proved of single rules. Assumes nothing.
 use mathlib.Core.Path.{_≡_}
-use mathlib.Core.Bool.{Bool, true, false, cond}
+use mathlib.Core.Bool.{true, false, cond}
 use mathlib.Core.List.{List, [], _∷_, _++_, map}
-use mathlib.Core.Option.{Option, none, some}
+use mathlib.Core.Option.{none, some}
 use mathlib.Core.Logic.{_⊎_, _↔_}
 use Prim.Native.Nat.{ℕ, zero, suc, _+_, _≤_, _<_, _^_, min}
 use lib.ListN.{length, take, drop, replicate}
@@ -45,7 +45,8 @@ pub record MarkedExamples : Type 0 where
   pub number : length examples ≡ 13
 
 -- 2. Reachable by levels, as document 01 has it, exactly when there is a chain as demand 2 has it: mutual Peer TLVs, joined endpoint to endpoint, from
--- our own node, every node on it but the last under the age limit. The reachable entries are those of the table, in its order. After the first level there are at most nodes less one.
+-- our own node, every node on it but the last under the age limit. The reachable entries are those of the table whose nodes are reachable, in the
+-- table's order. After the first level there are at most nodes less one.
 abbrev pub Chained : ℕ → ℕ → List Entry → ℕ → Type 0
 Chained own now t n = (k : ℕ) × (v : Vertex) × Chain own (vertices now t) k v × (v .says .node ≡ n)
 
@@ -149,8 +150,8 @@ pub record RefusalsChangeNothing : Type 0 where
   pub saves : (now table room : ℕ) (s : State) → ¬ (save now table room s .number ≡ 0) → save now table room s ≡ record { number = save now table room s .number; bytes = [] }
   pub shows : (n table : ℕ) (s : State) → ¬ (refusalShow n table s ≡ 0) → shown n table s ≡ []
 
--- The refusal table is exact (demand 2): a call answers 0 exactly if no row of its table applies, and a row's number exactly if that row applies and none before
--- it does. A node's data is shown without a number, which a second call gives.
+-- The refusal table is exact (demand 2): a call answers 0 exactly if no row of its table applies, and a row's number exactly if that row applies and
+-- none before it does. A node's data is shown without a number, which a second call gives.
 pub record Exact (n : ℕ) (rows : List Row) : Type 0 where
   pub answered : n ≡ firstOf rows
   pub none : (n ≡ 0) ↔ All (λ r. r .applies ≡ false) rows
@@ -183,8 +184,8 @@ pub record EachAtItsTurn : Type 0 where
       let w : Work = allTlvs (contextOf s c) (tlvs (c .datagram)) (startOf s) in
       receive c s ≡ record { number = 0; state = settle (c .now) (c .randoms) (w .state); bytes = w .out; omitted = w .omitted; dropped = w .dropped }
 
--- The counts are exact (demand 2): a reply is written, or it does not fit and is counted as left out; a request that is held back is neither. A new peer
--- without room is counted as dropped, and so is a Node State of a new node where 32 are held, which is when a Node State is dropped.
+-- The counts are those of the rules (demand 2): a reply is written, or does not fit and is counted as left out, and a request that is held back is
+-- neither; a new peer without room is counted as dropped, and so is a Node State of a new node where 32 are held, and no other.
 pub record CountsExact : Type 0 where
   pub written : (c : Context) (t : List ℕ) (w : Work) → length (w .out) + length (piece c t w) ≤ mostBytes
       → reply c t w ≡ record { state = w .state; sender = w .sender; out = w .out ++ piece c t w; omitted = w .omitted; dropped = w .dropped }

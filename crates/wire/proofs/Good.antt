@@ -434,3 +434,10 @@ no-tlvs s r = none-found (row s) r
 
 pub tlvs-bytes : (s t : List ℕ) → Bytes s → In t (tlvs s) → Bytes t
 tlvs-bytes s t h m = by-test (isRow s) (λ r. bytes-part (tlvs s) t (rw (tlvs-joined s r) h) m) (λ r. absurd (rw (no-tlvs s r) at m))
+
+-- a TLV that does not stand in node data is not taken out
+pub without-absent : (t : List ℕ) (us : List (List ℕ)) → among t us ≡ false → without t us ≡ us
+unfolding among without
+without-absent t [] h = refl
+without-absent t (u ∷ us) h =
+    rw (or-left (same t u) _ h) (ap (λ (x : List (List ℕ)). u ∷ x) (without-absent t us (or-right (same t u) _ h)))

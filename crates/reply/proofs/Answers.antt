@@ -1,0 +1,173 @@
+-- The answers to requests: which node is served, and the states one after the other. Assumes nothing.
+use mathlib.Core.Path.{_≡_, refl, sym, ap, _∙_}
+use mathlib.Core.Bool.{Bool, true, false, cond}
+use mathlib.Core.List.{List, _∷_, map}
+use Prim.Native.Nat.{ℕ, _+_, _≤_, _<_}
+use native.Mathlib.Omega.{arith}
+use lib.ListN.{length, getD, drop}
+use Rattle.base.specs.Lists.{keepBy, isSome}
+use Rattle.base.proofs.Places.{getD-any}
+use Rattle.model.specs.Figures.{mostNodes, wide}
+use Rattle.model.specs.Table.{Entry, idOf, look}
+use Rattle.model.specs.Reach.{inReach, reached}
+use Rattle.model.specs.State.{noEntry, State as ModelState}
+use Rattle.model.specs.Messages.{networkTlv, shortState, wholeState}
+use Rattle.model.specs.Handle.{reply, replies, digestNow, reachedNow, onRequestNetwork, onRequestNode}
+use Rattle.model.proofs.Cases.{request-network, request-node-unreachable, request-node-unknown, request-node-reached, replies-none, replies-next}
+use Rattle.model.proofs.Sent.{digest-length}
+use Rattle.table.specs.declared.Table.{Table}
+use Rattle.table.specs.View.{blank, rowAt, seen, view, Rows, Stands, Gap}
+use Rattle.table.proofs.Rows.{look-stands, look-gap, view-length, view-at}
+use Rattle.reach.specs.Marks.{Readable, Marking}
+use Rattle.base.proofs.Marks.{keep-by-end, keep-by-next}
+use Rattle.reach.proofs.Reaching.{reached-by}
+use Rattle.node.proofs.Parts.{state-own, state-table, state-held}
+use Rattle.reply.specs.declared.Context.{Context}
+use Rattle.reply.specs.declared.Work.{Work}
+use Rattle.reply.specs.View.{contextOf, workOf, Sound, Ready, Stepped, Markable, Refreshed}
+use Rattle.reply.proofs.Steps.{work-own, work-table, stepped-none, stepped-to, stepped-more, stepped-then, ready-markable}
+use Rattle.reply.proofs.Replies.{replied-state}
+
+-- ---- what the marking asks
+
+module _ {c : Context} {w : Work} {m : List ℕ} (h : Markable c w m) where
+  pub markable-readable : Readable (c .clock) (w .state .table) m
+  markable-readable = record { kept = h .rep .table; entries = rw (state-table (w .state) m) at (h .midway .table .entries); clock = h .clock }
+
+  pub markable-held : isSome (look (w .state .own) (view (w .state .table) m)) ≡ true
+  markable-held = state-held (w .state) m (h .midway .table .held)
+
+  -- they were worked out before
+  pub refreshed-before : w .fresh ≡ true → Refreshed c w m w
+  refreshed-before f =
+      record { state = refl; sender = refl; used = refl; omitted = refl; dropped = refl; fresh = f; reaching = h .cached f }
+
+-- ---- one node's state
+
+-- the mark at a node's place tells whether it is reachable
+mark-at : (own now : ℕ) (t : Table) (m : List ℕ) (marks : List Bool) (node i : ℕ) → Rows t → Marking own now (view t m) marks → Stands t node i
+    → getD marks i false ≡ inReach own now (view t m) node
+mark-at own now t m marks node i k g s =
+    let p : i < length (view t m) = rw (view-length t k m) (s .at) in
+    g .each i p ∙ ap (inReach own now (view t m)) (ap idOf (getD-any (view t m) i noEntry (seen m blank) p ∙ view-at t k m i (s .at)) ∙ s .named)
+
+module _ (c : Context) (w : Work) (m r : List ℕ) (h : Sound (c .clock) w m r) (f : w .fresh ≡ true) (node i : ℕ) where
+  reaching : Marking (w .state .own) (c .clock) (view (w .state .table) m) (w .reached .marks)
+  reaching = h .cached f .marks
+
+  nothing-done : onRequestNode (contextOf c) node (workOf w m r) ≡ workOf w m r → Stepped c 1 (onRequestNode (contextOf c) node) w m r w m r
+  nothing-done e = stepped-more (stepped-to (stepped-none h) (onRequestNode (contextOf c) node) (sym e)) 1 (omega arith)
+
+  -- a node that is not held
+  pub unknown-asked : Gap (w .state .table) node i → Stepped c 1 (onRequestNode (contextOf c) node) w m r w m r
+  unknown-asked g =
+      nothing-done (request-node-unknown (contextOf c) (workOf w m r) node (rw (work-table w m r) (look-gap (w .state .table) (h .rep .table .rows) node i m g)))
+
+  module _ (s : Stands (w .state .table) node i) where
+    mark-is : {b : Bool} → getD (w .reached .marks) i false ≡ b → inReach (workOf w m r .state .own) (c .clock) (workOf w m r .state .table) node ≡ b
+    mark-is e =
+        rw (work-own w m r, work-table w m r)
+        (sym (mark-at (w .state .own) (c .clock) (w .state .table) m (w .reached .marks) node i (h .rep .table .rows) reaching s) ∙ e)
+
+    -- one that is not reachable
+    pub unreachable-asked : getD (w .reached .marks) i false ≡ false → Stepped c 1 (onRequestNode (contextOf c) node) w m r w m r
+    unreachable-asked e = nothing-done (request-node-unreachable (contextOf c) (workOf w m r) node (mark-is e))
+
+    -- one that is
+    pub reached-asked : {v : Work} {r′ : List ℕ} → getD (w .reached .marks) i false ≡ true
+        → Stepped c 1 (reply (contextOf c) (wholeState (c .clock) (seen m (rowAt (w .state .table) i)))) w m r v m r′
+        → Stepped c 1 (onRequestNode (contextOf c) node) w m r v m r′
+    reached-asked e k =
+        stepped-to k (onRequestNode (contextOf c) node)
+        (sym (request-node-reached (contextOf c) (workOf w m r) node (mark-is e) (seen m (rowAt (w .state .table) i))
+        (rw (work-table w m r) (look-stands (w .state .table) (h .rep .table .rows) node i m s))))
+
+-- ---- the states of all that are reachable
+
+-- the places below i are done: what is left, from here, gives the whole answer
+pub record Listed (c : Context) (t : Table) (marks : List Bool) (w : Work) (m r : List ℕ) (i : ℕ) (v : Work) (r′ : List ℕ) : Type 0 where
+  pub stepped : Stepped c i (λ x. workOf v m r′) w m r v m r′
+  pub within : i ≤ t .count
+  pub left : replies (contextOf c) (map (shortState (c .clock)) (keepBy marks (view t m))) (workOf w m r)
+      ≡ replies (contextOf c) (map (shortState (c .clock)) (keepBy (drop i marks) (drop i (view t m)))) (workOf v m r′)
+
+module _ (c : Context) (t : Table) (marks : List Bool) (w : Work) (m r : List ℕ) (k : Rows t) where
+  pub list-start : Sound (c .clock) w m r → Listed c t marks w m r 0 w r
+  list-start h = record { stepped = stepped-to (stepped-none h) (λ x. workOf w m r) refl; within = omega arith; left = refl }
+
+  module _ (i : ℕ) (v : Work) (r′ : List ℕ) (l : Listed c t marks w m r i v r′) where
+    module _ (p : i < t .count) where
+      here : keepBy (drop i marks) (drop i (view t m))
+          ≡ cond (getD marks i false) (seen m (rowAt t i) ∷ keepBy (drop (i + 1) marks) (drop (i + 1) (view t m))) (keepBy (drop (i + 1) marks) (drop (i + 1) (view t m)))
+      here = keep-by-next (seen m blank) marks (view t m) i (rw (view-length t k m) p) ∙ rw (view-at t k m i p)
+
+      -- a node that is not reachable
+      pub list-stay : getD marks i false ≡ false → Listed c t marks w m r (i + 1) v r′
+      list-stay b =
+          record { stepped = stepped-more (l .stepped) (i + 1) (omega arith); within = omega arith; left = l .left ∙ rw (here, b) }
+
+      -- one that is
+      pub list-on : getD marks i false ≡ true → (u : Work) (r″ : List ℕ) → Stepped c 1 (reply (contextOf c) (shortState (c .clock) (seen m (rowAt t i)))) v m r′ u m r″
+          → Listed c t marks w m r (i + 1) u r″
+      list-on b u r″ s =
+          record {
+            stepped = stepped-to (stepped-then (l .stepped) s) (λ x. workOf u m r″) (sym (s .is));
+            within = omega arith;
+            left = l .left ∙ rw (here, b)
+                (replies-next (contextOf c) (workOf v m r′) (shortState (c .clock) (seen m (rowAt t i))) (map (shortState (c .clock)) (keepBy (drop (i + 1) marks) (drop (i + 1) (view t m))))
+                ∙ ap (replies (contextOf c) (map (shortState (c .clock)) (keepBy (drop (i + 1) marks) (drop (i + 1) (view t m))))) (sym (s .is)));
+          }
+
+    -- all of them are done
+    pub list-end : t .count ≤ i → t ≡ w .state .table → Marking (w .state .own) (c .clock) (view t m) marks
+        → Stepped c 32 (replies (contextOf c) (map (shortState (c .clock)) (reachedNow (contextOf c) (workOf w m r)))) w m r v m r′
+    list-end p q g =
+        stepped-more
+        (stepped-to (l .stepped) (replies (contextOf c) (map (shortState (c .clock)) (reachedNow (contextOf c) (workOf w m r))))
+        (sym
+        (ap (λ (es : List Entry). replies (contextOf c) (map (shortState (c .clock)) es) (workOf w m r)) reached-is ∙ l .left
+        ∙ rw (keep-by-end marks (view t m) i (rw (view-length t k m) p)) (replies-none (contextOf c) (workOf v m r′)))))
+        32 (omega (arith, l .within, k .most))
+      where
+        reached-is : reachedNow (contextOf c) (workOf w m r) ≡ keepBy marks (view t m)
+        reached-is = rw (work-own w m r, work-table w m r, ← q) (sym (reached-by (w .state .own) (c .clock) (view t m) marks g))
+
+-- ---- the network's state: our digest, and then all of them
+
+module _ (c : Context) (w : Work) (m r : List ℕ) (h : Ready c w m r) (f : w .fresh ≡ true) where
+  pub digest-wide : length (w .reached .digest) ≡ 16
+  digest-wide = ap length (h .sound .cached f .digest) ∙ digest-length (w .state .own) (c .clock) (view (w .state .table) m)
+
+  module _ (t : List ℕ) (v : Work) (r′ : List ℕ) (s : Stepped c 1 (reply (contextOf c) t) w m r v m r′) where
+    same-own : v .state .own ≡ w .state .own
+    same-own = sym (state-own (v .state) m) ∙ ap (λ (x : ModelState). x .own) (replied-state t s) ∙ state-own (w .state) m
+
+    same-view : view (v .state .table) m ≡ view (w .state .table) m
+    same-view = sym (state-table (v .state) m) ∙ ap (λ (x : ModelState). x .table) (replied-state t s) ∙ state-table (w .state) m
+
+    -- what the states ask of the work after the digest
+    pub states-asked : Sound (c .clock) v m r′ × (Readable (c .clock) (v .state .table) m × (Marking (v .state .own) (c .clock) (view (v .state .table) m) (w .reached .marks) × (v .omitted + mostNodes ≤ wide)))
+    states-asked = (
+      s .sound,
+      (
+        record { kept = s .sound .rep .table; entries = rw same-view (markable-readable (ready-markable h) .entries); clock = h .clock },
+        (rw (same-own, same-view) (h .sound .cached f .marks), omega (arith, s .omitted, h .omitted)),
+      ),
+    )
+
+    pub network-answered : t ≡ networkTlv (w .reached .digest) → {u : Work} {r″ : List ℕ}
+        → Stepped c 32 (replies (contextOf c) (map (shortState (c .clock)) (reachedNow (contextOf c) (workOf v m r′)))) v m r′ u m r″
+        → Stepped c 33 (onRequestNetwork (contextOf c)) w m r u m r″
+    network-answered e n =
+        stepped-to (stepped-then s n) (onRequestNetwork (contextOf c))
+        (sym
+        (request-network (contextOf c) (workOf w m r)
+        ∙ replies-next (contextOf c) (workOf w m r) (networkTlv (digestNow (contextOf c) (workOf w m r))) (map (shortState (c .clock)) (reachedNow (contextOf c) (workOf w m r)))
+        ∙ ap (λ (x : List ℕ). replies (contextOf c) (map (shortState (c .clock)) (reachedNow (contextOf c) (workOf w m r))) (reply (contextOf c) x (workOf w m r))) (ap networkTlv (sym digest-is) ∙ sym e)
+        ∙ ap (λ (es : List Entry). replies (contextOf c) (map (shortState (c .clock)) es) (reply (contextOf c) t (workOf w m r))) same-reached))
+      where
+        digest-is : w .reached .digest ≡ digestNow (contextOf c) (workOf w m r)
+        digest-is = rw (work-own w m r, work-table w m r) (h .sound .cached f .digest)
+
+        same-reached : reachedNow (contextOf c) (workOf w m r) ≡ reachedNow (contextOf c) (workOf v m r′)
+        same-reached = rw (work-own w m r, work-table w m r, work-own v m r′, work-table v m r′, same-own, same-view)

@@ -1,0 +1,70 @@
+-- The request for network state: held back, left out, or written and noted. Assumes nothing.
+use mathlib.Core.Path.{_≡_, refl, sym, ap, _∙_}
+use mathlib.Core.Bool.{true}
+use mathlib.Core.List.{List, [], _∷_}
+use Prim.Native.Nat.{ℕ, _+_, _≤_, _<_}
+use native.Mathlib.Omega.{arith}
+use lib.ListN.{length}
+use borrow.Author.Tests.{le-leb, lt-leb}
+use Rattle.base.proofs.Tests.{by-test}
+use Rattle.wire.specs.Row.{encode}
+use Rattle.model.specs.State.{State as ModelState, endpointAt, withEndpoint, withNext}
+use Rattle.model.specs.Messages.{requestNetworkTlv}
+use Rattle.model.specs.Handle.{withState, fits, reply, mayAsk, hasAsked, askNetwork}
+use Rattle.model.proofs.Cases.{ask-held, ask-written, ask-full}
+use Rattle.model.proofs.KeptSteps.{reply-state}
+use Rattle.node.specs.declared.State.{State}
+use Rattle.node.specs.declared.Endpoint.{Endpoint}
+use Rattle.node.specs.View.{endpointOf, stateOf, Moved}
+use Rattle.reply.specs.declared.Context.{Context}
+use Rattle.reply.specs.declared.Work.{Work}
+use Rattle.reply.specs.View.{contextOf, workOf, Sound, Stepped}
+use Rattle.reply.proofs.Steps.{work-state, putState, stepped-none, stepped-to, stepped-more, stepped-then, stepped-kept}
+use Rattle.reply.proofs.Replies.{replied-used, replied-none}
+
+-- the bytes of the request
+pub request-bytes : _≡_ {A = List ℕ} (0 ∷ 1 ∷ 0 ∷ 0 ∷ []) requestNetworkTlv
+unfolding encode
+request-bytes = refl
+
+module _ (c : Context) (w : Work) (m r : List ℕ) (h : Sound (c .clock) w m r) (e : Endpoint) (q : endpointOf e ≡ endpointAt (c .endpoint) (stateOf (w .state) m)) where
+  next-is : endpointAt (c .endpoint) (workOf w m r .state) .next ≡ e .next
+  next-is = rw (work-state w m r, ← q)
+
+  -- too early
+  pub ask-early : c .clock < e .next → Stepped c 1 (askNetwork (contextOf c)) w m r w m r
+  ask-early p =
+      stepped-more
+      (stepped-to (stepped-none h) (askNetwork (contextOf c))
+      (sym (ask-held (contextOf c) (workOf w m r) (rw next-is (lt-leb (e .next) (c .clock) p)))))
+      1 (omega arith)
+
+  module _ (p : e .next ≤ c .clock) (v : Work) (r′ : List ℕ) (s : Stepped c 1 (reply (contextOf c) requestNetworkTlv) w m r v m r′) where
+    may : mayAsk (contextOf c) (workOf w m r) ≡ true
+    may = rw next-is (le-leb (e .next) (c .clock) p)
+
+    written-used : fits (contextOf c) requestNetworkTlv (workOf w m r) ≡ true → w .used < v .used
+    written-used f = omega (arith, replied-used requestNetworkTlv s h f, ap length request-bytes)
+
+    -- left out
+    pub ask-omitted : v .used ≡ w .used → Stepped c 1 (askNetwork (contextOf c)) w m r v m r′
+    ask-omitted u =
+        stepped-to s (askNetwork (contextOf c))
+        (sym (by-test (fits (contextOf c) requestNetworkTlv (workOf w m r)) (λ f. absurd (omega (arith, written-used f))) (λ f. ask-full (contextOf c) (workOf w m r) may f)))
+
+    -- written: the next may go out 200 ms later
+    pub ask-noted : ¬ (v .used ≡ w .used) → (x : State)
+        → Moved (withEndpoint (c .endpoint) (withNext (c .clock + 200) (endpointAt (c .endpoint) (stateOf (v .state) m))) (stateOf (v .state) m)) m x m
+        → x .own ≡ v .state .own → x .table ≡ v .state .table
+        → Stepped c 1 (askNetwork (contextOf c)) w m r (putState x (v .fresh) v) m r′
+    ask-noted u x k o t =
+        stepped-to (stepped-then s noted) (askNetwork (contextOf c))
+        (sym
+        (by-test (fits (contextOf c) requestNetworkTlv (workOf w m r)) (λ f. ask-written (contextOf c) (workOf w m r) may f) (λ f. absurd (u (replied-none requestNetworkTlv s h f)))
+        ∙ ap (λ (y : ModelState). withState (hasAsked (contextOf c) y) (reply (contextOf c) requestNetworkTlv (workOf w m r))) (sym (reply-state (contextOf c) requestNetworkTlv (workOf w m r)))))
+      where
+        noted : Stepped c 0 (λ y. withState (hasAsked (contextOf c) (y .state)) y) v m r′ (putState x (v .fresh) v) m r′
+        noted =
+            stepped-kept (s .sound) (λ y. withState (hasAsked (contextOf c) (y .state)) y)
+            (hasAsked (contextOf c) (stateOf (v .state) m)) x k o t
+            (ap (λ (y : ModelState). withState (hasAsked (contextOf c) y) (workOf v m r′)) (work-state v m r′))

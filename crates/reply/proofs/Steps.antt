@@ -1,0 +1,313 @@
+-- Steps on the work: the model's work by its parts, and how one step follows another. Layers above cite these laws and open no `workOf`.
+-- Assumes nothing.
+use mathlib.Core.Path.{_≡_, refl, sym, ap, _∙_, subst}
+use mathlib.Core.Bool.{Bool, true, false}
+use mathlib.Core.List.{List, _++_}
+use mathlib.Core.Option.{none, some}
+use Prim.Native.Nat.{ℕ, _+_, _≤_}
+use native.Mathlib.Omega.{arith}
+use lib.ListN.{length, take}
+use lib.Seq.{length-take-le}
+use Rattle.base.specs.Memory.{written}
+use Rattle.base.proofs.Tests.{no-way}
+use Rattle.base.proofs.Written.{written-length}
+use Rattle.model.specs.Figures.{mostBytes}
+use Rattle.model.specs.State.{State as ModelState}
+use Rattle.model.specs.Handle.{Work as ModelWork, withState, withSender, withOut, omitOne, dropOne, digestNow}
+use Rattle.model.specs.Invariant.{Midway}
+use Rattle.table.specs.View.{view}
+use Rattle.reach.specs.declared.Reached.{Reached}
+use Rattle.reach.specs.Marks.{Reaching}
+use Rattle.node.specs.declared.State.{State}
+use Rattle.node.specs.View.{stateOf, Rep, Moved}
+use Rattle.reply.specs.declared.Context.{Context}
+use Rattle.reply.specs.declared.Sender.{Sender}
+use Rattle.reply.specs.declared.Work.{Work}
+use Rattle.reply.specs.View.{contextOf, senderOf, workOf, Sound, Ready, Stepped, Markable, Refreshed}
+use Rattle.reply.proofs.Basics.{written-taken, written-left, drop-later}
+
+-- ---- the model's work by its parts
+
+module _ (w : Work) (m r : List ℕ) where
+  pub work-state : workOf w m r .state ≡ stateOf (w .state) m
+  unfolding workOf
+  work-state = refl
+
+  pub work-own : workOf w m r .state .own ≡ w .state .own
+  unfolding workOf stateOf
+  work-own = refl
+
+  pub work-table : workOf w m r .state .table ≡ view (w .state .table) m
+  unfolding workOf stateOf
+  work-table = refl
+
+  pub work-sender : workOf w m r .sender ≡ senderOf (w .sender)
+  unfolding workOf
+  work-sender = refl
+
+  pub work-known : w .sender .known ≡ true → workOf w m r .sender ≡ some (record { node = w .sender .node; endpoint = w .sender .endpoint })
+  unfolding workOf
+  work-known e = rw e
+
+  pub work-unknown : w .sender .known ≡ false → workOf w m r .sender ≡ none
+  unfolding workOf
+  work-unknown e = rw e
+
+  pub work-out : workOf w m r .out ≡ take (w .used) r
+  unfolding workOf
+  work-out = refl
+
+  pub work-omitted : workOf w m r .omitted ≡ w .omitted
+  unfolding workOf
+  work-omitted = refl
+
+  pub work-dropped : workOf w m r .dropped ≡ w .dropped
+  unfolding workOf
+  work-dropped = refl
+
+  -- as many bytes are written as are used
+  pub work-length : {now : ℕ} → Sound now w m r → length (workOf w m r .out) ≡ w .used
+  work-length s = rw work-out (length-take-le (w .used) r (omega (arith, s .used, s .room)))
+
+-- ---- the work with another part
+
+-- the state; `b` says whether marks and digest are still those of its table
+abbrev pub putState : State → Bool → Work → Work
+putState s b w = record { state = s; sender = w .sender; used = w .used; omitted = w .omitted; dropped = w .dropped; fresh = b; reached = w .reached }
+
+abbrev pub putSender : Sender → Work → Work
+putSender f w = record { state = w .state; sender = f; used = w .used; omitted = w .omitted; dropped = w .dropped; fresh = w .fresh; reached = w .reached }
+
+abbrev pub putUsed : ℕ → Work → Work
+putUsed n w = record { state = w .state; sender = w .sender; used = n; omitted = w .omitted; dropped = w .dropped; fresh = w .fresh; reached = w .reached }
+
+abbrev pub putOmitted : ℕ → Work → Work
+putOmitted n w = record { state = w .state; sender = w .sender; used = w .used; omitted = n; dropped = w .dropped; fresh = w .fresh; reached = w .reached }
+
+abbrev pub putDropped : ℕ → Work → Work
+putDropped n w = record { state = w .state; sender = w .sender; used = w .used; omitted = w .omitted; dropped = n; fresh = w .fresh; reached = w .reached }
+
+-- marks and digest, worked out
+abbrev pub putReached : Reached → Work → Work
+putReached g w = record { state = w .state; sender = w .sender; used = w .used; omitted = w .omitted; dropped = w .dropped; fresh = true; reached = g }
+
+module _ (w : Work) (m r : List ℕ) where
+  pub state-put : (s : State) (b : Bool) (m′ : List ℕ) → workOf (putState s b w) m′ r ≡ withState (stateOf s m′) (workOf w m r)
+  unfolding workOf
+  state-put s b m′ = refl
+
+  -- the sender that stands in the Node Endpoint TLV
+  pub sender-put : (f : Sender) → f .known ≡ true → workOf (putSender f w) m r ≡ withSender (record { node = f .node; endpoint = f .endpoint }) (workOf w m r)
+  unfolding workOf
+  sender-put f e = rw e
+
+  pub used-put : (n : ℕ) (r′ : List ℕ) → workOf (putUsed n w) m r′ ≡ withOut (take n r′) (workOf w m r)
+  unfolding workOf
+  used-put n r′ = refl
+
+  pub omitted-put : workOf (putOmitted (w .omitted + 1) w) m r ≡ omitOne (workOf w m r)
+  unfolding workOf
+  omitted-put = refl
+
+  pub dropped-put : workOf (putDropped (w .dropped + 1) w) m r ≡ dropOne (workOf w m r)
+  unfolding workOf
+  dropped-put = refl
+
+  pub reached-put : (g : Reached) → workOf (putReached g w) m r ≡ workOf w m r
+  unfolding workOf
+  reached-put g = refl
+
+-- ---- the representation with another part
+
+module _ {now : ℕ} {w : Work} {m r : List ℕ} (h : Sound now w m r) where
+  -- another state over the same table: marks and digest stay
+  pub sound-state : (s : State) → Rep s m → s .own ≡ w .state .own → s .table ≡ w .state .table → Sound now (putState s (w .fresh) w) m r
+  sound-state s k o t = record { rep = k; used = h .used; room = h .room; cached = λ f. rw (o, t) (h .cached f) }
+
+  -- another table: they are to be worked out anew
+  pub sound-anew : (s : State) (m′ : List ℕ) → Rep s m′ → Sound now (putState s false w) m′ r
+  sound-anew s m′ k = record { rep = k; used = h .used; room = h .room; cached = λ f. no-way false f refl }
+
+  pub sound-sender : (f : Sender) → Sound now (putSender f w) m r
+  sound-sender f = record { rep = h .rep; used = h .used; room = h .room; cached = h .cached }
+
+  pub sound-omitted : (n : ℕ) → Sound now (putOmitted n w) m r
+  sound-omitted n = record { rep = h .rep; used = h .used; room = h .room; cached = h .cached }
+
+  pub sound-dropped : (n : ℕ) → Sound now (putDropped n w) m r
+  sound-dropped n = record { rep = h .rep; used = h .used; room = h .room; cached = h .cached }
+
+  pub sound-used : (n : ℕ) (r′ : List ℕ) → n ≤ mostBytes → length r′ ≡ length r → Sound now (putUsed n w) m r′
+  sound-used n r′ p e = record { rep = h .rep; used = p; room = rw e (h .room); cached = h .cached }
+
+  pub sound-reached : (g : Reached) → Reaching (w .state .own) now (view (w .state .table) m) g → Sound now (putReached g w) m r
+  sound-reached g k = record { rep = h .rep; used = h .used; room = h .room; cached = λ f. k }
+
+-- ---- one step, and the next
+
+module _ {c : Context} {w : Work} {m r : List ℕ} where
+  -- a step that leaves memory and room as they were
+  pub stepped-still : (k : ℕ) (f : ModelWork → ModelWork) (v : Work) → workOf v m r ≡ f (workOf w m r) → Sound (c .clock) v m r
+      → v .omitted ≤ w .omitted + k → v .dropped ≤ w .dropped + k → v .used ≡ w .used → Stepped c k f w m r v m r
+  stepped-still k f v e h p q u =
+      record { is = e; sound = h; omitted = p; dropped = q; size = refl; beyond = refl; room = refl; onward = omega arith; rest = refl }
+
+  -- a step that does nothing
+  pub stepped-none : Sound (c .clock) w m r → Stepped c 0 (λ x. x) w m r w m r
+  stepped-none h = stepped-still 0 (λ x. x) w refl h (omega arith) (omega arith) refl
+
+  module _ {k : ℕ} {f : ModelWork → ModelWork} {v : Work} {m′ r′ : List ℕ} (h : Stepped c k f w m r v m′ r′) where
+    -- the model's step is another's at this work
+    pub stepped-to : (g : ModelWork → ModelWork) → f (workOf w m r) ≡ g (workOf w m r) → Stepped c k g w m r v m′ r′
+    stepped-to g e =
+        record { is = h .is ∙ e; sound = h .sound; omitted = h .omitted; dropped = h .dropped; size = h .size; beyond = h .beyond; room = h .room; onward = h .onward; rest = h .rest }
+
+    -- a larger bound
+    pub stepped-more : (n : ℕ) → k ≤ n → Stepped c n f w m r v m′ r′
+    stepped-more n p =
+        record { is = h .is; sound = h .sound; omitted = omega (arith, h .omitted); dropped = omega (arith, h .dropped); size = h .size; beyond = h .beyond; room = h .room; onward = h .onward; rest = h .rest }
+
+    -- the state afterwards is the model's
+    pub stepped-state : stateOf (v .state) m′ ≡ f (workOf w m r) .state
+    stepped-state = sym (work-state v m′ r′) ∙ ap (λ (x : ModelWork). x .state) (h .is)
+
+    -- one step after the other, their bounds added
+    pub stepped-then : {j : ℕ} {g : ModelWork → ModelWork} {u : Work} {m″ r″ : List ℕ} → Stepped c j g v m′ r′ u m″ r″
+        → Stepped c (k + j) (λ x. g (f x)) w m r u m″ r″
+    stepped-then {g = g} {u = u} n =
+        record {
+          is = n .is ∙ ap g (h .is);
+          sound = n .sound;
+          omitted = omega (arith, h .omitted, n .omitted);
+          dropped = omega (arith, h .dropped, n .dropped);
+          size = n .size ∙ h .size;
+          beyond = n .beyond ∙ h .beyond;
+          room = n .room ∙ h .room;
+          onward = omega (arith, h .onward, n .onward);
+          rest = n .rest ∙ drop-later r r′ (v .used) (u .used) (n .onward) (h .rest);
+        }
+
+    -- after a step that keeps the invariant the next one can come
+    pub ready-next : Ready c w m r → Midway (c .clock) (f (workOf w m r) .state) → v .omitted ≤ 1000000 → v .dropped ≤ 1000000 → Ready c v m′ r′
+    ready-next g i p q =
+        record { sound = h .sound; midway = rw stepped-state i; clock = g .clock; first = g .first; fourth = g .fourth; omitted = p; dropped = q }
+
+    -- the same where the step leaves the state alone
+    pub ready-still : Ready c w m r → f (workOf w m r) .state ≡ workOf w m r .state → v .omitted ≤ 1000000 → v .dropped ≤ 1000000 → Ready c v m′ r′
+    ready-still g e p q = ready-next g (rw (e, work-state w m r) (g .midway)) p q
+
+-- ---- steps on one part
+
+module _ {c : Context} {w : Work} {m r : List ℕ} (h : Sound (c .clock) w m r) (f : ModelWork → ModelWork) where
+  -- the state, its table as it was
+  pub stepped-kept : (a : ModelState) (s : State) → Moved a m s m → s .own ≡ w .state .own → s .table ≡ w .state .table
+      → f (workOf w m r) ≡ withState a (workOf w m r) → Stepped c 0 f w m r (putState s (w .fresh) w) m r
+  stepped-kept a s k o t e =
+      stepped-still 0 f (putState s (w .fresh) w) (state-put w m r s (w .fresh) m ∙ ap (λ (x : ModelState). withState x (workOf w m r)) (k .is) ∙ sym e)
+      (sound-state h s (k .rep) o t) (omega arith) (omega arith) refl
+
+  -- the state with its table
+  pub stepped-anew : (a : ModelState) (s : State) (m′ : List ℕ) → Moved a m s m′
+      → f (workOf w m r) ≡ withState a (workOf w m r) → Stepped c 0 f w m r (putState s false w) m′ r
+  stepped-anew a s m′ k e =
+      record {
+        is = state-put w m r s false m′ ∙ ap (λ (x : ModelState). withState x (workOf w m r)) (k .is) ∙ sym e;
+        sound = sound-anew h s m′ (k .rep);
+        omitted = omega arith;
+        dropped = omega arith;
+        size = k .size;
+        beyond = k .beyond;
+        room = refl;
+        onward = omega arith;
+        rest = refl;
+      }
+
+  -- the sender
+  pub stepped-sender : (s : Sender) → s .known ≡ true → f (workOf w m r) ≡ withSender (record { node = s .node; endpoint = s .endpoint }) (workOf w m r)
+      → Stepped c 0 f w m r (putSender s w) m r
+  stepped-sender s k e =
+      stepped-still 0 f (putSender s w) (sender-put w m r s k ∙ sym e) (sound-sender h s) (omega arith) (omega arith) refl
+
+  -- a reply left out
+  pub stepped-omitted : f (workOf w m r) ≡ omitOne (workOf w m r) → Stepped c 1 f w m r (putOmitted (w .omitted + 1) w) m r
+  stepped-omitted e =
+      stepped-still 1 f (putOmitted (w .omitted + 1) w) (omitted-put w m r ∙ sym e) (sound-omitted h (w .omitted + 1)) (omega arith) (omega arith) refl
+
+  -- a TLV dropped for room
+  pub stepped-dropped : f (workOf w m r) ≡ dropOne (workOf w m r) → Stepped c 1 f w m r (putDropped (w .dropped + 1) w) m r
+  stepped-dropped e =
+      stepped-still 1 f (putDropped (w .dropped + 1) w) (dropped-put w m r ∙ sym e) (sound-dropped h (w .dropped + 1)) (omega arith) (omega arith) refl
+
+  -- the bytes x written to the room
+  pub stepped-written : (x r′ : List ℕ) (n : ℕ) → r′ ≡ written r (w .used) x → n ≡ w .used + length x → n ≤ mostBytes
+      → f (workOf w m r) ≡ withOut (workOf w m r .out ++ x) (workOf w m r) → Stepped c 0 f w m r (putUsed n w) m r′
+  stepped-written x r′ n k q p e =
+      let l : w .used + length x ≤ length r = omega (arith, h .room) in
+      let z : length r′ ≡ length r = rw k (written-length r x (w .used) l) in
+      record {
+        is = used-put w m r n r′ ∙ ap (λ (o : List ℕ). withOut o (workOf w m r)) (rw (q, work-out w m r) (written-taken r r′ x (w .used) k l)) ∙ sym e;
+        sound = sound-used h n r′ p z;
+        omitted = omega arith;
+        dropped = omega arith;
+        size = refl;
+        beyond = refl;
+        room = z;
+        onward = omega arith;
+        rest = rw q (written-left r r′ x (w .used) k l);
+      }
+
+-- ---- marks and digest worked out
+
+same-work : {s s′ : State} {f f′ : Sender} {u u′ o o′ d d′ : ℕ} {b b′ : Bool} (g : Reached) → s ≡ s′ → f ≡ f′ → u ≡ u′ → o ≡ o′ → d ≡ d′ → b ≡ b′
+    → _≡_ {A = Work} (record { state = s; sender = f; used = u; omitted = o; dropped = d; fresh = b; reached = g })
+    (record { state = s′; sender = f′; used = u′; omitted = o′; dropped = d′; fresh = b′; reached = g })
+same-work g e1 e2 e3 e4 e5 e6 = cc
+
+module _ {c : Context} {w : Work} {m : List ℕ} {v : Work} (h : Refreshed c w m v) where
+  pub refreshed-is : v ≡ putReached (v .reached) w
+  refreshed-is = same-work (v .reached) (h .state) (h .sender) (h .used) (h .omitted) (h .dropped) (h .fresh)
+
+  -- the model's work is the same
+  pub refreshed-work : (r : List ℕ) → workOf v m r ≡ workOf w m r
+  refreshed-work r = ap (λ (x : Work). workOf x m r) refreshed-is ∙ reached-put w m r (v .reached)
+
+  pub refreshed-sound : (r : List ℕ) → Sound (c .clock) w m r → Sound (c .clock) v m r
+  refreshed-sound r k = subst (λ (x : Work). Sound (c .clock) x m r) (sym refreshed-is) (sound-reached k (v .reached) (h .reaching))
+
+  pub refreshed-ready : (r : List ℕ) → Ready c w m r → Ready c v m r
+  refreshed-ready r k =
+      record {
+        sound = refreshed-sound r (k .sound);
+        midway = rw (h .state) (k .midway);
+        clock = k .clock;
+        first = k .first;
+        fourth = k .fourth;
+        omitted = rw (h .omitted) (k .omitted);
+        dropped = rw (h .dropped) (k .dropped);
+      }
+
+  pub refreshed-stepped : (r : List ℕ) → Sound (c .clock) w m r → Stepped c 0 (λ x. x) w m r v m r
+  refreshed-stepped r k =
+      stepped-still 0 (λ x. x) v (refreshed-work r) (refreshed-sound r k) (omega (arith, h .omitted)) (omega (arith, h .dropped)) (h .used)
+
+  -- a step from there is a step from the work before
+  pub refreshed-then : {k : ℕ} {f : ModelWork → ModelWork} {r : List ℕ} {u : Work} {m′ r′ : List ℕ} → Stepped c k f v m r u m′ r′ → Stepped c k f w m r u m′ r′
+  refreshed-then {f = f} {r = r} s =
+      record {
+        is = s .is ∙ ap f (refreshed-work r);
+        sound = s .sound;
+        omitted = omega (arith, s .omitted, h .omitted);
+        dropped = omega (arith, s .dropped, h .dropped);
+        size = s .size;
+        beyond = s .beyond;
+        room = s .room;
+        onward = omega (arith, s .onward, h .used);
+        rest = s .rest;
+      }
+
+  -- marks and digest are the model's
+  pub refreshed-digest : (r : List ℕ) → v .reached .digest ≡ digestNow (contextOf c) (workOf w m r)
+  refreshed-digest r = rw (work-own w m r, work-table w m r) (h .reaching .digest)
+
+pub ready-markable : {c : Context} {w : Work} {m r : List ℕ} → Ready c w m r → Markable c w m
+ready-markable h = record { rep = h .sound .rep; midway = h .midway; clock = h .clock; cached = h .sound .cached }

@@ -1,0 +1,15 @@
+use borrow.Author.Needs.{needs}
+use Rattle.reply.proofs.request.front_of.Statement.{statement}
+use Rattle.reply.proofs.request.front_of.Tie as tie
+
+sent-age-requires : tie.Need-sent-age-requires
+sent-age-requires c κs = search needs
+
+state-front-requires : tie.Need-state-front-requires
+state-front-requires c κs = search needs
+
+returns : tie.Need-returns
+returns c = rw (c .before .sent-age .ensures) at (c .state-front .ensures)
+
+pub front-of-spec : {M : Type 1} → statement M
+front-of-spec = tie.close (tie.spec sent-age-requires state-front-requires returns)

@@ -1,0 +1,103 @@
+use Rattle.reply.proofs.request.reply_states.Statement.{statement}
+use Rattle.reply.proofs.request.reply_states.Tie as tie
+use borrow.Author.Needs.{needs}
+use Prim.Native.Nat.{_-_}
+use mathlib.Core.Path.{refl}
+use mathlib.Core.List.{[]}
+use mathlib.Core.Logic.{⊎-elim}
+use native.Mathlib.Omega.{arith}
+use Rattle.reply.proofs.Replies.{replied-as}
+use Rattle.reply.proofs.States.{front-fits, front-short, front-room}
+use Rattle.reply.proofs.Answers.{Listed, list-start, list-stay, list-on, list-end}
+
+abbrev Inv-loop : tie.InvT-loop
+Inv-loop mem room₀ c marks t count v₀ i₀ room v i = Listed c t marks v₀ mem room₀ i v room
+
+abbrev μ-loop : tie.MeasureT-loop
+μ-loop mem room₀ c marks t count v₀ i₀ room v i = count - i
+
+loop-holds : tie.Need-loop-holds Inv-loop μ-loop
+loop-holds c = let a = c .before .before .before .args in list-start (a .c) (a .w .state .table) (a .t5) (a .w) (a .mem .now) (a .room .now) (c .before .before .before .pre .1 .0 .kept .rows) (c .before .before .before .pre .0)
+
+array-read-if1 : tie.Need-array-read-if1 Inv-loop μ-loop
+array-read-if1 c = omega (arith, c .before .before .before .before .before .pre .1 .1 .0 .wide, c .before .before .before .before .before .pre .1 .0 .kept .rows .most)
+
+row-at-requires : tie.Need-row-at-requires Inv-loop μ-loop
+row-at-requires c κs = (c .before .before .before .before .before .before .pre .1 .0 .kept .rows, search needs)
+
+front-of-requires : tie.Need-front-of-requires Inv-loop μ-loop
+front-of-requires c κs =
+    let a = c .before .before .before .before .before .before .before .args in
+    front-fits (a .c .clock) (a .w .state .table) (a .mem .now) (c .before .before .before .before .before .before .before .pre .1 .0) (c .before .before .before .loop .i) (omega arith) (c .row-at .result) (c .row-at .ensures) 0 (omega arith)
+
+slice-aggregate-reply : tie.Need-slice-aggregate-reply Inv-loop μ-loop
+slice-aggregate-reply c = search needs
+
+sub-reply : tie.Need-sub-reply Inv-loop μ-loop
+sub-reply c = search needs
+
+part-reply-start : tie.Need-part-reply-start Inv-loop μ-loop
+part-reply-start c = search needs
+
+part-reply-end : tie.Need-part-reply-end Inv-loop μ-loop
+part-reply-end c = search needs
+
+reply-requires : tie.Need-reply-requires Inv-loop μ-loop
+reply-requires c κs =
+    let a = c .before .before .before .before .before .before .before .before .before .before .before .args in
+    let p = c .before .before .before .before .before .before .before .before .before .before .before .pre in
+    let l = c .before .before .before .before .before .before .before .loop in (
+      l .inv .stepped .sound,
+      (
+        omega (arith, l .inv .stepped .omitted, l .inv .within, p .1 .0 .kept .rows .most, p .1 .1 .1),
+        front-room (a .c .clock) (a .w .state .table) (a .mem .now) (p .1 .0) (l .i) (omega arith) (c .before .before .before .before .row-at .result) (c .before .before .before .before .row-at .ensures) (c .before .before .before .front-of .result) [] 0 (c .before .before .before .front-of .ensures) (omega arith),
+      ),
+    )
+
+add-i : tie.Need-add-i Inv-loop μ-loop
+add-i c = search needs
+
+loop-less : tie.Need-loop-less Inv-loop μ-loop
+loop-less c = search needs
+
+loop-again : tie.Need-loop-again Inv-loop μ-loop
+loop-again c =
+    let a = c .before .before .before .before .before .before .args in
+    let p = c .before .before .before .before .before .before .pre in
+    let l = c .before .before .loop in
+    ⊎-elim
+    (λ b. rw (b .9, b .10) (list-on (a .c) (a .w .state .table) (a .t5) (a .w) (a .mem .now) (a .room .now) (p .1 .0 .kept .rows) (l .i) (l .v) (l .room) (l .inv) (omega arith) (b .0 .taken) _ _
+    (replied-as (b .6 .ensures) (front-short (a .c .clock) (a .w .state .table) (a .mem .now) (p .1 .0) (l .i) (omega arith) (b .1 .result) (b .1 .ensures) _ (b .2 .ensures)))))
+    (λ b. rw (b .1, b .2) (list-stay (a .c) (a .w .state .table) (a .t5) (a .w) (a .mem .now) (a .room .now) (p .1 .0 .kept .rows) (l .i) (l .v) (l .room) (l .inv) (omega arith) (b .0 .left)))
+    (c .if1 .came)
+
+same-length : tie.Need-same-length Inv-loop μ-loop
+same-length c = c .before .loop .inv .stepped .room
+
+returns : tie.Need-returns Inv-loop μ-loop
+returns c =
+    let a = c .before .before .before .before .before .args in
+    let p = c .before .before .before .before .before .pre in
+    let l = c .before .loop in
+    list-end (a .c) (a .w .state .table) (a .t5) (a .w) (a .mem .now) (a .room .now) (p .1 .0 .kept .rows) (l .i) (l .v) (l .room) (l .inv) (omega arith) refl (p .1 .1 .0)
+
+pub reply-states-spec : {M : Type 1} → statement M
+reply-states-spec =
+    tie.close
+    (tie.spec
+    Inv-loop
+    μ-loop
+    loop-holds
+    array-read-if1
+    row-at-requires
+    front-of-requires
+    slice-aggregate-reply
+    sub-reply
+    part-reply-start
+    part-reply-end
+    reply-requires
+    add-i
+    loop-less
+    loop-again
+    same-length
+    returns)

@@ -1,0 +1,139 @@
+-- A tick: the digest compared after silent peers have gone, the endpoint's event, and the bytes that are sent. Assumes nothing.
+use mathlib.Core.Path.{_≡_, refl, sym, ap, _∙_, subst}
+use mathlib.Core.Bool.{true, false, cond}
+use mathlib.Core.List.{List, [], _++_}
+use Prim.Native.Nat.{ℕ, pred, _≤_}
+use native.Mathlib.Omega.{arith}
+use lib.ListN.{length, getD, take, drop, length-append}
+use Rattle.base.specs.Memory.{written}
+use Rattle.base.proofs.Written.{written-length, written-above, written-more, part-there}
+use Rattle.wire.proofs.Encoded.{encode-length}
+use Rattle.model.specs.Figures.{mostBytes, lastReading}
+use Rattle.model.specs.Digest.{networkDigest}
+use Rattle.model.specs.Trickle.{event}
+use Rattle.model.specs.State.{State as ModelState, Endpoint as ModelEndpoint, withTrickle, endpointAt, withEndpoint, settle}
+use Rattle.model.specs.Messages.{endpointTlv, networkTlv}
+use Rattle.model.specs.Tick.{dropSilent, Sent, announcement, withEvent, ticked}
+use Rattle.model.specs.Invariant.{EndpointFits, Midway}
+use Rattle.model.proofs.Cases.{endpoint-length, ticked-is}
+use Rattle.model.proofs.KeptParts.{endpoint-fits, settle-midway}
+use Rattle.model.proofs.KeptTick.{silent-kept}
+use Rattle.trickle.specs.View.{trickleOf, eventOf, Small}
+use Rattle.trickle.specs.declared.Event.{Event}
+use Rattle.trickle.proofs.Laws.{fits-small}
+use Rattle.table.specs.View.{view}
+use Rattle.reach.specs.Marks.{Readable}
+use Rattle.node.specs.View.{endpointOf, stateOf, Rep, Held, Moved, Settled}
+use Rattle.node.specs.declared.State.{State}
+use Rattle.node.specs.declared.Endpoint.{Endpoint}
+use Rattle.node.proofs.Parts.{state-own, state-digest}
+use Rattle.node.proofs.Moves.{moved-then}
+use Rattle.node.proofs.Settling.{settled-moved}
+use Rattle.upkeep.specs.Ticked.{Cleared, TickedFrom}
+use Rattle.upkeep.proofs.Leaving.{held-midway}
+
+-- ---- the bytes
+
+network-length : (digest : List ℕ) → length digest ≡ 16 → length (networkTlv digest) ≡ 20
+network-length digest h = encode-length 4 digest ∙ rw h
+
+module _ (own endpoint : ℕ) (digest : List ℕ) (h : length digest ≡ 16) where
+  announced-length : length (endpointTlv own endpoint ++ networkTlv digest) ≡ 32
+  announced-length = omega (arith, length-append (endpointTlv own endpoint) (networkTlv digest), endpoint-length own endpoint, network-length digest h)
+
+  pub announced : (d d1 d2 tlv : List ℕ) → 32 ≤ length d → d1 ≡ written d 0 (endpointTlv own endpoint) → tlv ≡ networkTlv digest → d2 ≡ written d1 12 tlv
+      → d2 ≡ written d 0 (endpointTlv own endpoint ++ networkTlv digest)
+  announced d d1 d2 tlv l p q r =
+      written-more d 0 (endpointTlv own endpoint) (networkTlv digest) d1 d2 12 p (omega (arith, endpoint-length own endpoint)) (r ∙ ap (written d1 12) q)
+      (omega (arith, network-length digest h))
+
+-- ---- silent peers gone, the digest compared
+
+module _ (now i : ℕ) (s : ModelState) (mid : Midway now s) (m : List ℕ) (a : State) (m′ : List ℕ) (o : Moved (dropSilent now i s) m a m′) where
+  dropped-midway : Midway now (stateOf a m′)
+  dropped-midway = subst (Midway now) (sym (o .is)) (silent-kept now i s mid)
+
+  pub dropped-readable : now ≤ lastReading → Readable now (a .table) m′ × Held a m′
+  unfolding stateOf
+  dropped-readable l = (record { kept = o .rep .table; entries = dropped-midway .table .entries; clock = l }, held-midway now a m′ dropped-midway)
+
+  pub dropped-cleared : (rs d : List ℕ) (r : State) → d ≡ networkDigest (a .own) now (view (a .table) m′) → Settled now rs d a r → Cleared now i rs s m r m′
+  dropped-cleared rs d r e h =
+      record {
+        moved = moved-then o (settle now rs) (settled-moved now rs d a r m′ h (o .rep) e);
+        midway = settle-midway now rs (dropSilent now i s) (silent-kept now i s mid);
+      }
+
+-- ---- the event
+
+abbrev sent : ModelState → List ℕ → Sent
+sent s d = record { number = 0; state = s; bytes = d }
+
+module _ (now i : ℕ) (rs : List ℕ) (s : State) (m : List ℕ) (b : State) (m′ : List ℕ) (o : Cleared now i rs (stateOf s m) m b m′)
+    (e : Endpoint) (q : endpointOf e ≡ endpointAt i (stateOf b m′)) where
+  abbrev after : ModelState
+  after = settle now rs (dropSilent now i (stateOf s m))
+
+  endpoint-is : endpointOf e ≡ endpointAt i after
+  endpoint-is = q ∙ ap (endpointAt i) (o .moved .is)
+
+  pub trickle-small : 1 ≤ i → i ≤ 4 → now ≤ lastReading → Small (e .trickle)
+  trickle-small low high l =
+      fits-small now (e .trickle) l (subst (EndpointFits now) (sym endpoint-is) (endpoint-fits i low high after (o .midway)) .trickle)
+
+  module _ (v : Event) (k : ℕ) (n : pred i ≡ k) (w : eventOf v ≡ event now (getD rs k 0) (trickleOf (e .trickle)))
+      (r : State) (f : Rep r m′) (u : stateOf r m′ ≡ withEndpoint i (endpointOf (record { trickle = v .next; next = e .next })) (stateOf b m′)) where
+    event-is : event now (getD rs (pred i) 0) (endpointAt i after .trickle) ≡ eventOf v
+    event-is =
+        ap (λ (j : ℕ). event now (getD rs j 0) (endpointAt i after .trickle)) n
+        ∙ ap (λ (x : ModelEndpoint). event now (getD rs k 0) (x .trickle)) (sym endpoint-is)
+        ∙ sym w
+
+    state-is : stateOf r m′ ≡ withEndpoint i (withTrickle (trickleOf (v .next)) (endpointAt i after)) after
+    state-is =
+        u
+        ∙ ap (withEndpoint i (withTrickle (trickleOf (v .next)) (endpointOf e))) (o .moved .is)
+        ∙ ap (λ (x : ModelEndpoint). withEndpoint i (withTrickle (trickleOf (v .next)) x) after) endpoint-is
+
+    -- what is sent names the state after the event
+    announced-is : endpointTlv (r .own) i ++ networkTlv (r .digest) ≡ announcement i after
+    announced-is =
+        let a : r .own ≡ after .own = sym (state-own r m′) ∙ ap (λ (x : ModelState). x .own) state-is in
+        let d : r .digest ≡ after .digest = sym (state-digest r m′) ∙ ap (λ (x : ModelState). x .digest) state-is in
+        rw (a, d)
+
+    answer-is : (d : List ℕ) → d ≡ cond (v .sends) (announcement i after) [] → sent (stateOf r m′) d ≡ ticked now i rs (stateOf s m)
+    answer-is d p =
+        ap (λ (x : ModelState). sent x d) state-is
+        ∙ ap (sent (withEndpoint i (withTrickle (trickleOf (v .next)) (endpointAt i after)) after)) p
+        ∙ ap (withEvent i after) (sym event-is)
+        ∙ sym (ticked-is now i (stateOf s m) rs)
+
+    module _ (room : List ℕ) where
+      -- nothing is sent
+      pub quiet-tick : v .sends ≡ false → TickedFrom s m room now i rs (record { state = r; length = 0 }) m′ room
+      quiet-tick h =
+          record {
+            rep = f;
+            is = answer-is [] (rw h);
+            used = omega arith;
+            size = o .moved .size;
+            beyond = o .moved .beyond;
+            room = refl;
+            rest = refl;
+          }
+
+      pub sent-tick : v .sends ≡ true → mostBytes ≤ length room → (room′ : List ℕ) → room′ ≡ written room 0 (endpointTlv (r .own) i ++ networkTlv (r .digest))
+          → TickedFrom s m room now i rs (record { state = r; length = 32 }) m′ room′
+      sent-tick h l room′ p =
+          let d : List ℕ = endpointTlv (r .own) i ++ networkTlv (r .digest) in
+          let z : length (endpointTlv (r .own) i ++ networkTlv (r .digest)) ≡ 32 = announced-length (r .own) i (r .digest) (f .digest) in
+          record {
+            rep = f;
+            is = answer-is (take 32 room′) (part-there room room′ d 0 32 p (sym z) (omega arith) ∙ announced-is ∙ rw h);
+            used = omega arith;
+            size = o .moved .size;
+            beyond = o .moved .beyond;
+            room = ap length p ∙ written-length room d 0 (omega arith);
+            rest = ap (drop 32) p ∙ written-above room d 0 (omega arith) 32 (omega arith);
+          }

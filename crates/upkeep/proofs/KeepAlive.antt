@@ -1,0 +1,116 @@
+-- Keep-Alive intervals: the search for the TLV, and the interval of a peer's node. Assumes nothing.
+use mathlib.Core.Path.{_≡_, refl, sym, ap, _∙_, subst}
+use mathlib.Core.Bool.{Bool, true, false, _&&_}
+use mathlib.Core.List.{List}
+use Prim.Native.Nat.{ℕ, _+_, _-_, _*_, _/_, _≤_, _<_}
+use native.Mathlib.Omega.{arith}
+use lib.ListN.{length, drop, length-drop}
+use lib.Dec.{eqb, leb}
+use borrow.Author.Tests.{eq-eqb, ne-eqb, le-leb, lt-leb, leb-true, leb-false}
+use Rattle.base.specs.Lists.{first, orElse}
+use Rattle.base.specs.Bytes.{u32At}
+use Rattle.base.proofs.Tests.{by-test, and-left, and-right}
+use Rattle.base.proofs.Places.{all-at}
+use Rattle.base.proofs.Written.{part-length}
+use Rattle.wire.specs.Row.{typeOf, valueOf, isRow, tlvs}
+use Rattle.wire.specs.Order.{good}
+use Rattle.wire.specs.Answers.{Tells}
+use Rattle.wire.specs.declared.row.Header.{Header}
+use Rattle.wire.proofs.Rows.{tlvs-end}
+use Rattle.wire.proofs.Good.{good-row}
+use Rattle.model.specs.Figures.{usualInterval, dataLimit}
+use Rattle.model.specs.Table.{Entry}
+use Rattle.model.specs.State.{Peer as ModelPeer}
+use Rattle.model.specs.Tick.{isKeepAlive, intervalIn, intervalOf, silentFor, goes}
+use Rattle.table.specs.View.{blank, dataOf, seen, rowAt, view, Kept, Stands, Gap}
+use Rattle.table.specs.declared.Table.{Table}
+use Rattle.table.proofs.Rows.{look-stands, look-gap, view-length, view-at}
+use Rattle.reach.specs.Marks.{tlvOf}
+use Rattle.base.proofs.Bytes.{u32-part}
+use Rattle.upkeep.specs.Ticked.{AllGood}
+
+-- ---- one TLV
+
+module _ (s : List ℕ) (at : ℕ) (h : Header) (k : Tells s at h) where
+  value-length : length (valueOf (tlvOf s at h)) ≡ h .len
+  value-length = ap length (k .value) ∙ part-length s (h .start) (h .len) (omega (arith, k .inside, k .within))
+
+  -- a number in the value, as the code reads it
+  value-number : (i : ℕ) → i + 4 ≤ h .len → u32At (valueOf (tlvOf s at h)) i ≡ u32At s (h .start + i)
+  value-number i l = rw (k .value) (u32-part s (h .len) (h .start) i l)
+
+  module _ (endpoint : ℕ) where
+    pub other-kind : ¬ (h .kind ≡ 9) → isKeepAlive endpoint (tlvOf s at h) ≡ false
+    other-kind n = rw (sym (k .kind), ne-eqb (h .kind) 9 n)
+
+    pub too-short : h .kind ≡ 9 → h .len < 8 → isKeepAlive endpoint (tlvOf s at h) ≡ false
+    too-short e l = rw (sym (k .kind), eq-eqb (h .kind) 9 e, value-length, lt-leb 8 (h .len) l)
+
+    pub keeps-alive : h .kind ≡ 9 → 8 ≤ h .len → (n : ℕ) → n ≡ u32At s (h .start) → isKeepAlive endpoint (tlvOf s at h) ≡ eqb n endpoint
+    keeps-alive e l n q =
+        let z : h .start + 0 ≡ h .start = omega arith in
+        let r : u32At (valueOf (tlvOf s at h)) 0 ≡ n = value-number 0 (omega arith) ∙ rw z (sym q) in
+        rw (sym (k .kind), eq-eqb (h .kind) 9 e, value-length, le-leb 8 (h .len) l) (ap (λ (x : ℕ). eqb x endpoint) r)
+
+    pub long-enough : {b : Bool} → b ≡ isKeepAlive endpoint (tlvOf s at h) → b ≡ true → 8 ≤ h .len
+    long-enough e t =
+        let q : eqb (typeOf (tlvOf s at h)) 9 && leb 8 (length (valueOf (tlvOf s at h))) ≡ true = and-left _ _ (sym e ∙ t) in
+        rw value-length at (leb-true 8 (length (valueOf (tlvOf s at h))) (and-right (eqb (typeOf (tlvOf s at h)) 9) _ q))
+
+-- ---- the search
+
+-- the interval that these TLVs give
+abbrev pub given : List (List ℕ) → ℕ → ℕ
+given ts endpoint = orElse (first (isKeepAlive endpoint) ts) usualInterval (λ t. u32At (valueOf t) 4)
+
+pub given-start : (s : List ℕ) (endpoint : ℕ) → intervalIn s endpoint ≡ given (tlvs (drop 0 s)) endpoint
+unfolding intervalIn
+given-start s endpoint = refl
+
+module _ (s : List ℕ) (endpoint at : ℕ) where
+  pub given-end : length s ≤ at → given (tlvs (drop at s)) endpoint ≡ usualInterval
+  given-end p = rw (tlvs-end (drop at s) (simp length-drop (omega arith)))
+
+  module _ (h : Header) (k : Tells s at h) {b : Bool} (e : b ≡ isKeepAlive endpoint (tlvOf s at h)) where
+    pub given-here : b ≡ true → given (tlvs (drop at s)) endpoint ≡ u32At s (h .start + 4)
+    given-here t = ap (λ (ts : List (List ℕ)). given ts endpoint) (k .left) ∙ rw (sym e ∙ t) (value-number s at h k 4 (long-enough s at h k endpoint e t))
+
+    pub given-on : b ≡ false → given (tlvs (drop at s)) endpoint ≡ given (tlvs (drop (h .next) s)) endpoint
+    given-on t = ap (λ (ts : List (List ℕ)). given ts endpoint) (k .left) ∙ rw (sym e ∙ t)
+
+-- ---- the interval of a peer
+
+module _ (t : Table) (m : List ℕ) (k : Kept t m) (i : ℕ) where
+  -- the data of a node that stands in the table are a row
+  pub stands-row : (id : ℕ) → AllGood (view t m) → Stands t id i → isRow (dataOf m (rowAt t i)) ≡ true
+  stands-row id g s =
+      good-row dataLimit (dataOf m (rowAt t i))
+      (subst (λ (e : Entry). good dataLimit (e .says .nodeData) ≡ true) (view-at t (k .rows) m i (s .at))
+      (all-at (λ e. good dataLimit (e .says .nodeData) ≡ true) (seen m blank) (view t m) i g (rw (view-length t (k .rows) m) (s .at))))
+
+  module _ (p : ModelPeer) where
+    pub interval-found : Stands t (p .node) i → intervalOf (view t m) p ≡ intervalIn (dataOf m (rowAt t i)) (p .theirs)
+    unfolding intervalOf
+    interval-found s = rw (look-stands t (k .rows) (p .node) i m s)
+
+    pub interval-missing : Gap t (p .node) i → intervalOf (view t m) p ≡ usualInterval
+    unfolding intervalOf
+    interval-missing g = rw (look-gap t (k .rows) (p .node) i m g)
+
+-- ---- silence
+
+-- without the product of the silence
+pub silent-by : (interval silence : ℕ) → leb ((21 * interval + 9) / 10) silence ≡ silentFor interval silence
+silent-by interval silence =
+    by-test (silentFor interval silence)
+    (λ e. let l : 21 * interval ≤ 10 * silence = leb-true (21 * interval) (10 * silence) e in rw e (le-leb ((21 * interval + 9) / 10) silence (omega arith)))
+    (λ e. let l : 10 * silence < 21 * interval = leb-false (21 * interval) (10 * silence) e in rw e (lt-leb ((21 * interval + 9) / 10) silence (omega arith)))
+
+module _ (now endpoint : ℕ) (t : List Entry) (p : ModelPeer) where
+  pub goes-other : ¬ (p .ours ≡ endpoint) → goes now endpoint t p ≡ false
+  unfolding goes
+  goes-other n = rw (ne-eqb (p .ours) endpoint n)
+
+  pub goes-here : p .ours ≡ endpoint → goes now endpoint t p ≡ silentFor (intervalOf t p) (now - p .contact)
+  unfolding goes
+  goes-here e = rw (eq-eqb (p .ours) endpoint e)

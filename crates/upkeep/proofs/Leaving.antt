@@ -1,0 +1,130 @@
+-- The peers that go and those that stay, by their marks; our own age. Assumes nothing.
+use mathlib.Core.Path.{_≡_, refl, sym, ap, _∙_, subst}
+use mathlib.Core.Bool.{Bool, true, false, not}
+use mathlib.Core.List.{List, [], _∷_, _++_, map}
+use Prim.Native.Nat.{ℕ, _+_, _-_, _≤_, _<_}
+use native.Mathlib.Omega.{arith}
+use native.Mathlib.Numerals.{add-one}
+use lib.ListN.{length, getD, take, set}
+use lib.Seq.{take-suc-set}
+use Rattle.base.specs.Lists.{any, keep, keepBy}
+use Rattle.base.proofs.Tests.{by-test}
+use Rattle.base.proofs.Lists.{all-more}
+use Rattle.base.proofs.Places.{getD-any, all-at}
+use Rattle.wire.specs.Order.{good}
+use Rattle.model.specs.Figures.{mostPeers, dataLimit, mostAge}
+use Rattle.model.specs.Table.{Entry, ageAt}
+use Rattle.model.specs.State.{State as ModelState, Peer as ModelPeer, ownEntry}
+use Rattle.model.specs.Tick.{goes, someOf}
+use Rattle.model.specs.Invariant.{EntryFits, PeerFits, Midway}
+use Rattle.model.proofs.Cases.{gone, stay}
+use Rattle.model.proofs.KeptParts.{midway-own}
+use Rattle.table.specs.View.{seen, view, Read, Stands}
+use Rattle.table.specs.declared.Entry.{Entry as Row}
+use Rattle.base.proofs.Marks.{not-at, keep-by-nil, keep-by-in, keep-by-out, keep-by-map, keep-by-places, any-places, Filled}
+use Rattle.node.specs.View.{peerOf, peersOf, stateOf, PeersRep, Rep, Held}
+use Rattle.node.specs.declared.State.{State}
+use Rattle.node.specs.declared.peers.Peer.{Peer}
+use Rattle.node.specs.declared.peers.Peers.{Peers}
+use Rattle.node.proofs.Contacts.{peers-length, peers-at}
+use Rattle.node.proofs.Parts.{state-held}
+use Rattle.node.proofs.Own.{own-entry}
+use Rattle.upkeep.specs.Ticked.{AllGood, Going}
+
+abbrev pub noPeer : ModelPeer
+noPeer = record { node = 0; theirs = 0; ours = 0; contact = 0 }
+
+-- the peer that the code reads at a place
+pub peer-at : (p : Peers) (i : ℕ) (d : Peer) → PeersRep p → i < p .count → peerOf (getD (p .list) i d) ≡ getD (peersOf p) i noPeer
+peer-at p i d k h = sym (peers-at p i d h) ∙ getD-any (peersOf p) i (peerOf d) noPeer (rw (peers-length p k) h)
+
+-- ---- what the code asks, from the invariant
+
+module _ (clock : ℕ) (s : State) (m : List ℕ) (mid : Midway clock (stateOf s m)) where
+  pub held-midway : Held s m
+  held-midway = state-held s m (mid .table .held)
+
+  pub good-midway : AllGood (view (s .table) m)
+  unfolding stateOf
+  good-midway = all-more (EntryFits clock) (λ e. good dataLimit (e .says .nodeData) ≡ true) (λ e f. f .fine) (view (s .table) m) (mid .table .entries)
+
+  pub contact-midway : (i : ℕ) (d : Peer) → PeersRep (s .peers) → i < s .peers .count → getD (s .peers .list) i d .contact ≤ clock
+  unfolding stateOf
+  contact-midway i d k h =
+      subst (λ (p : ModelPeer). p .contact ≤ clock) (sym (peer-at (s .peers) i d k h))
+      (all-at (PeerFits (s .own) clock) noPeer (peersOf (s .peers)) i (mid .peers .all) (rw (peers-length (s .peers) k) h) .contact)
+
+-- ---- our own age
+
+module _ (clock : ℕ) (s : State) (m : List ℕ) (i : ℕ) (k : Rep s m) (h : Stands (s .table) (s .own) i) (e : Row) (r : Read (s .table) i e) where
+  row-is : ownEntry (stateOf s m) ≡ seen m e
+  row-is = own-entry s m i k h ∙ ap (seen m) (sym (r .same))
+
+  pub row-fits : Midway clock (stateOf s m) → (e .since ≤ clock) × (e .age ≤ mostAge)
+  row-fits mid =
+      let f : EntryFits clock (seen m e) = subst (EntryFits clock) row-is (midway-own (stateOf s m) mid) in
+      (f .since, f .age)
+
+  pub row-age : e .age + (clock - e .since) ≡ ageAt clock (ownEntry (stateOf s m))
+  row-age = ap (ageAt clock) (sym row-is)
+
+-- ---- a mark for each peer that goes
+
+-- the marks of the peers before place i are theirs by now, and no other is set
+abbrev pub Marked : ℕ → ℕ → List Entry → List ModelPeer → ℕ → List Bool → Type 0
+Marked now endpoint t ps i marks = Filled (λ k. goes now endpoint t (getD ps k noPeer)) (λ k. false) i marks
+
+pub all-marked : (now endpoint : ℕ) (s : State) (m : List ℕ) (i : ℕ) (marks : List Bool) → PeersRep (s .peers) → s .peers .count ≡ i → length marks ≡ mostPeers
+    → Marked now endpoint (view (s .table) m) (peersOf (s .peers)) i marks → Going now endpoint (stateOf s m) marks
+unfolding stateOf
+all-marked now endpoint s m i marks k e w f =
+    let l : length (peersOf (s .peers)) ≡ s .peers .count = peers-length (s .peers) k in
+    record {
+      wide = w;
+      each = λ j h p. f .done j (omega arith) ∙ ap (goes now endpoint (view (s .table) m)) (getD-any (peersOf (s .peers)) j noPeer p h);
+      none = λ j h. f .left j (omega arith);
+    }
+
+-- some peer goes
+some-keep : (f : ModelPeer → Bool) (ps : List ModelPeer) → any f ps ≡ someOf (keep f ps)
+some-keep f [] = refl
+some-keep f (p ∷ ps) = by-test (f p) (λ b. rw b) (λ b. rw b (some-keep f ps))
+
+module _ (now endpoint : ℕ) (s : ModelState) (marks : List Bool) (g : Going now endpoint s marks) where
+  pub gone-by : keepBy marks (s .peers) ≡ gone now endpoint s
+  gone-by = keep-by-places noPeer (goes now endpoint (s .table)) marks (s .peers) (λ i h. g .each i h noPeer)
+
+  pub stay-by : length (s .peers) ≤ mostPeers → keepBy (map not marks) (s .peers) ≡ stay now endpoint s
+  stay-by l =
+      let w : length marks ≡ mostPeers = g .wide in
+      keep-by-places noPeer (λ p. not (goes now endpoint (s .table) p)) (map not marks) (s .peers)
+      (λ i h. not-at marks i (omega arith) ∙ ap not (g .each i h noPeer))
+
+  pub some-by : any (λ b. b) marks ≡ someOf (gone now endpoint s)
+  some-by =
+      any-places noPeer (goes now endpoint (s .table)) marks (s .peers) (λ i h. g .each i h noPeer) (g .none)
+      ∙ some-keep (goes now endpoint (s .table)) (s .peers)
+
+-- ---- those that stay, moved together: the first j of r are those that stay of the first i of l
+
+abbrev pub Stayed : List Bool → List Peer → ℕ → List Peer → ℕ → Type 0
+Stayed marks l i r j = take j r ≡ keepBy (map not marks) (take i l)
+
+pub stayed-none : (marks : List Bool) (l r : List Peer) → Stayed marks l 0 r 0
+stayed-none marks l r = sym (keep-by-nil (map not marks))
+
+module _ (marks : List Bool) (l : List Peer) (i : ℕ) (r : List Peer) (j : ℕ) (h : i < length marks) (k : i < length l) (q : Stayed marks l i r j) where
+  pub stayed-not : getD marks i false ≡ true → Stayed marks l (i + 1) r j
+  stayed-not e = q ∙ sym (keep-by-out (record { node = 0; theirs = 0; ours = 0; contact = 0 }) (map not marks) l i k (not-at marks i h ∙ ap not e))
+
+  pub stayed-one : (d : Peer) → getD marks i false ≡ false → j < length r → Stayed marks l (i + 1) (set r j (getD l i d)) (j + 1)
+  stayed-one d e n =
+      rw (add-one j, take-suc-set r j (getD l i d) n)
+      (ap (λ (x : List Peer). x ++ (getD l i d ∷ [])) q ∙ sym (keep-by-in d (map not marks) l i k (not-at marks i h ∙ ap not e)))
+
+pub stayed-all : (marks : List Bool) (p : Peers) (i : ℕ) (r : List Peer) (j : ℕ) → p .count ≡ i → Stayed marks (p .list) i r j
+    → peersOf (record { count = j; list = r }) ≡ keepBy (map not marks) (peersOf p)
+unfolding peersOf
+stayed-all marks p i r j e q =
+    let w : take j r ≡ keepBy (map not marks) (take (p .count) (p .list)) = rw e q in
+    ap (map peerOf) w ∙ sym (keep-by-map peerOf (map not marks) (take (p .count) (p .list)))

@@ -1,0 +1,5 @@
+-- The laws of upkeep.
+pub mod KeepAlive
+pub mod Leaving
+pub mod Removal
+pub mod Events

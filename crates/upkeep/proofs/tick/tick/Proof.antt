@@ -1,0 +1,97 @@
+use borrow.Author.Needs.{needs}
+use native.Mathlib.Omega.{arith}
+use borrow.Author.Tests.{not-true, not-false}
+use Prim.Native.Nat.{_-_}
+use Rattle.node.proofs.Parts.{pred-is}
+use Rattle.upkeep.proofs.Events.{trickle-small, quiet-tick, sent-tick}
+use Rattle.upkeep.proofs.tick.tick.Statement.{statement}
+use Rattle.upkeep.proofs.tick.tick.Tie as tie
+
+cleared-requires : tie.Need-cleared-requires
+cleared-requires c κs = search needs
+
+endpoint-at-requires : tie.Need-endpoint-at-requires
+endpoint-at-requires c κs = search needs
+
+sub-k : tie.Need-sub-k
+sub-k c = search needs
+
+cast-k : tie.Need-cast-k
+cast-k c = search needs
+
+mul-tick : tie.Need-mul-tick
+mul-tick c = search needs
+
+array-read-tick : tie.Need-array-read-tick
+array-read-tick c = omega (arith, c .before .before .before .before .before .before .before .before .pre .1 .1 .1 .0, c .before .before .before .before .before .before .before .before .pre .1 .1 .1 .1 .0)
+
+tick-requires : tie.Need-tick-requires
+tick-requires c κs =
+    let a = c .before .before .before .before .before .before .before .before .args in
+    let p = c .before .before .before .before .before .before .before .before .pre in
+    let d = c .before .before .before .before .cleared in
+    let e = c .before .endpoint-at in
+    trickle-small (a .clock) (a .endpoint) (a .t6) (a .s) (a .mem .now) (d .result) (d .last .1 .0) (d .ensures) (e .result) (e .ensures (d .last .1 .0)) (p .1 .1 .1 .0) (p .1 .1 .1 .1 .0) (p .1 .1 .0)
+
+with-endpoint-requires : tie.Need-with-endpoint-requires
+with-endpoint-requires c κs =
+    let p = c .before .before .before .before .before .before .before .before .before .before .pre in
+    (c .before .before .before .before .before .before .cleared .ensures .moved .rep .four, (p .1 .1 .1 .0, p .1 .1 .1 .1 .0))
+
+same-length : tie.Need-same-length
+same-length c = search needs
+
+returns : tie.Need-returns
+returns c =
+    let a = c .before .before .before .before .before .before .before .before .before .before .before .before .before .args in
+    let d = c .before .before .before .before .before .before .before .before .before .cleared in
+    let m = d .last .1 .0 in
+    let e = c .before .before .before .before .before .before .endpoint-at in
+    let v = c .before .before .before .before .tick in
+    let r = c .before .before .with-endpoint in
+    quiet-tick (a .clock) (a .endpoint) (a .t6) (a .s) (a .mem .now) (d .result) m (d .ensures) (e .result) (e .ensures m) (v .result) (a .endpoint - 1) (pred-is (a .endpoint)) (v .ensures)
+    (r .result) (r .ensures .0 m (d .ensures .moved .rep)) (r .ensures .1 m) (a .room .now) (not-true _ (c .if1 .taken))
+
+announce-requires : tie.Need-announce-requires
+announce-requires c κs =
+    let p = c .before .before .before .before .before .before .before .before .before .before .before .before .before .before .before .pre in
+    let d = c .before .before .before .before .before .before .before .before .before .before .before .cleared in
+    let f = c .before .before .before .before .with-endpoint .ensures .0 (d .last .1 .0) (d .ensures .moved .rep) in
+    (omega (arith, p .1 .1 .1 .1 .1), f .digest)
+
+same-length-2 : tie.Need-same-length-2
+same-length-2 c = search needs
+
+same-length-3 : tie.Need-same-length-3
+same-length-3 c = search needs
+
+returns-2 : tie.Need-returns-2
+returns-2 c =
+    let a = c .before .before .before .before .before .before .before .before .before .before .before .before .before .before .before .before .before .before .args in
+    let d = c .before .before .before .before .before .before .before .before .before .before .before .before .before .before .cleared in
+    let m = d .last .1 .0 in
+    let e = c .before .before .before .before .before .before .before .before .before .before .before .endpoint-at in
+    let v = c .before .before .before .before .before .before .before .before .before .tick in
+    let r = c .before .before .before .before .before .before .before .with-endpoint in
+    let t = c .before .before .announce in
+    sent-tick (a .clock) (a .endpoint) (a .t6) (a .s) (a .mem .now) (d .result) m (d .ensures) (e .result) (e .ensures m) (v .result) (a .endpoint - 1) (pred-is (a .endpoint)) (v .ensures)
+    (r .result) (r .ensures .0 m (d .ensures .moved .rep)) (r .ensures .1 m) (a .room .now) (not-false _ (c .before .before .before .before .before .if1 .left)) (c .before .before .before .before .before .before .before .before .before .before .before .before .before .before .before .before .before .before .pre .1 .1 .1 .1 .1) (t .last .0) (t .ensures)
+
+pub tick-spec : {M : Type 1} → statement M
+tick-spec =
+    tie.close
+    (tie.spec
+    cleared-requires
+    endpoint-at-requires
+    sub-k
+    cast-k
+    mul-tick
+    array-read-tick
+    tick-requires
+    with-endpoint-requires
+    same-length
+    returns
+    announce-requires
+    same-length-2
+    same-length-3
+    returns-2)

@@ -1,0 +1,46 @@
+-- What a tick that is not refused leaves. Assumes nothing.
+use mathlib.Core.Path.{_≡_}
+use mathlib.Core.Bool.{Bool, true, false}
+use mathlib.Core.List.{List}
+use Prim.Native.Nat.{ℕ, _≤_, _<_}
+use lib.ListN.{length, getD, take, drop}
+use Rattle.base.specs.Lists.{joinAll, All}
+use Rattle.wire.specs.Row.{tlvs}
+use Rattle.wire.specs.Order.{good, without}
+use Rattle.model.specs.Figures.{mostBytes, mostPeers, dataLimit, tableBytes}
+use Rattle.model.specs.Table.{Entry}
+use Rattle.model.specs.State.{State as ModelState, Peer as ModelPeer, ownData, publishAs, peerTlv, settle}
+use Rattle.model.specs.Tick.{goes, dropSilent, ticked}
+use Rattle.model.specs.Invariant.{Midway}
+use Rattle.node.specs.declared.State.{State}
+use Rattle.node.specs.View.{stateOf, Rep, Moved}
+use Rattle.upkeep.specs.declared.tick.Ticked.{Ticked}
+
+-- every node's data are good
+abbrev pub AllGood : List Entry → Type 0
+AllGood t = All (λ e. good dataLimit (e .says .nodeData) ≡ true) t
+
+-- a mark for each peer, set exactly if it goes
+pub record Going (now endpoint : ℕ) (s : ModelState) (marks : List Bool) : Type 0 where
+  pub wide : length marks ≡ mostPeers
+  pub each : (i : ℕ) → i < length (s .peers) → (p : ModelPeer) → getD marks i false ≡ goes now endpoint (s .table) (getD (s .peers) i p)
+  pub none : (i : ℕ) → length (s .peers) ≤ i → getD marks i false ≡ false
+
+-- our data without the peer's Peer TLV, which may have stood there
+pub record WithoutLink (now seq : ℕ) (p : ModelPeer) (s : ModelState) (m : List ℕ) (r : State) (m′ : List ℕ) : Type 0 where
+  pub moved : Moved (publishAs now seq (joinAll (without (peerTlv p) (tlvs (ownData s)))) s) m r m′
+
+-- silent peers gone and the digest compared: what the event then finds
+pub record Cleared (now endpoint : ℕ) (randoms : List ℕ) (s : ModelState) (m : List ℕ) (r : State) (m′ : List ℕ) : Type 0 where
+  pub moved : Moved (settle now randoms (dropSilent now endpoint s)) m r m′
+  pub midway : Midway now (settle now randoms (dropSilent now endpoint s))
+
+-- the model's answer, and every byte that is not the answer's as it was
+pub record TickedFrom (s : State) (m r : List ℕ) (clock endpoint : ℕ) (randoms : List ℕ) (o : Ticked) (m′ r′ : List ℕ) : Type 0 where
+  pub rep : Rep (o .state) m′
+  pub is : record { number = 0; state = stateOf (o .state) m′; bytes = take (o .length) r′ } ≡ ticked clock endpoint randoms (stateOf s m)
+  pub used : o .length ≤ mostBytes
+  pub size : length m′ ≡ length m
+  pub beyond : drop tableBytes m′ ≡ drop tableBytes m
+  pub room : length r′ ≡ length r
+  pub rest : drop (o .length) r′ ≡ drop (o .length) r

@@ -1,0 +1,3 @@
+// A tick of one endpoint: silent peers go, then at most one Trickle event.
+pub mod silence;
+pub mod tick;

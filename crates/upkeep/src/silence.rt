@@ -1,0 +1,224 @@
+// Peers that have been silent too long, and our own age.
+use base::big_endian::read_u32;
+use message::peer_tlv;
+use node::State;
+use node::peers::Peer;
+use node::peers::Peers;
+use node::publish::advanced;
+use node::publish::own_data;
+use node::publish::own_place;
+use node::publish::own_seq;
+use node::publish::publish_as;
+use node::publish::publish_cut;
+use table::Found;
+use table::Table;
+use table::age_at;
+use table::data_of;
+use table::find;
+use table::row_at;
+use wire::order::Standing;
+use wire::order::find_tlv;
+use wire::row::Header;
+use wire::row::tlv_at;
+ghost use mathlib.Core.Path.{_≡_};
+ghost use mathlib.Core.Bool.{true, not, _||_};
+ghost use mathlib.Core.List.{map};
+ghost use Prim.Native.Nat.{_≤_, _<_};
+ghost use lib.Dec.{leb};
+ghost use Rattle.base.specs.Lists.{any, keepBy};
+ghost use Rattle.wire.specs.Row.{isRow};
+ghost use Rattle.wire.specs.Order.{good};
+ghost use Rattle.wire.specs.Answers.{Tells};
+ghost use Rattle.model.specs.Figures.{dataLimit, refreshAge, lastReading};
+ghost use Rattle.model.specs.Table.{ageAt};
+ghost use Rattle.model.specs.State.{ownEntry, ownData, publishAs};
+ghost use Rattle.model.specs.Tick.{isKeepAlive, intervalIn, intervalOf, silentFor, goes, withoutPeers, dropSilent};
+ghost use Rattle.model.specs.Invariant.{Midway};
+ghost use Rattle.table.specs.View.{view, Kept};
+ghost use Rattle.reach.specs.Marks.{tlvOf};
+ghost use Rattle.node.specs.View.{peerOf, peersOf, stateOf, PeersRep, Rep, Held, Moved};
+ghost use Rattle.upkeep.specs.Ticked.{AllGood, Going, WithoutLink};
+
+// The TLV is a Keep-Alive TLV for the endpoint.
+fn is_keep_alive(nd: &[u8], at: usize, h: Header, endpoint: u32) -> bool
+    requires { ⌜ Tells (now nd) at h ⌝ }
+    ensures { λ r. ⌜ r ≡ isKeepAlive endpoint (tlvOf (now (nd .entry)) at h) ⌝ }
+{
+    if h.kind != 9 {
+        return false;
+    }
+    if h.len < 8 {
+        return false;
+    }
+    read_u32(nd, h.start) == endpoint
+}
+
+// The interval that node data give for an endpoint: the first Keep-Alive TLV's, else 20,000.
+pub fn interval_in(nd: &[u8], endpoint: u32) -> u64
+    requires { ⌜ isRow (now nd) ≡ true ⌝ }
+    ensures { λ r. ⌜ (r ≡ intervalIn (now (nd .entry)) endpoint) × (r < 4294967296) ⌝ }
+{
+    let mut at = 0;
+    while at < nd.len() {
+        let h = tlv_at(nd, at);
+        if is_keep_alive(nd, at, h, endpoint) {
+            return read_u32(nd, h.start + 4) as u64;
+        }
+        at = h.next;
+    }
+    20000
+}
+
+// 10 x silence is at least 21 x interval; the product of the silence could exceed 64 bits.
+pub fn is_silent(interval: u64, silence: u64) -> bool
+    requires { ⌜ interval < 4294967296 ⌝ }
+    ensures { λ r. ⌜ r ≡ silentFor interval silence ⌝ }
+{
+    (21 * interval + 9) / 10 <= silence
+}
+
+// The interval of a peer: from its node's data, in reach or not.
+fn interval_of(t: Table, mem: &[u8], p: Peer) -> u64
+    requires { ⌜ Kept t (now mem) × AllGood (view t (now mem)) ⌝ }
+    ensures { λ r. ⌜ (r ≡ intervalOf (view t (now (mem .entry))) (peerOf p)) × (r < 4294967296) ⌝ }
+{
+    let found = find(t, p.node);
+    match found {
+        Found::At(i) => interval_in(data_of(t, mem, i), p.theirs),
+        Found::Missing(_) => 20000,
+    }
+}
+
+// The peer is on the endpoint, and has been silent too long.
+fn is_going(t: Table, mem: &[u8], clock: u64, endpoint: u32, p: Peer) -> bool
+    requires { ⌜ Kept t (now mem) × (AllGood (view t (now mem)) × (p .contact ≤ clock)) ⌝ }
+    ensures { λ r. ⌜ r ≡ goes clock endpoint (view t (now (mem .entry))) (peerOf p) ⌝ }
+{
+    if p.ours != endpoint {
+        return false;
+    }
+    is_silent(interval_of(t, mem, p), clock - p.contact)
+}
+
+// A mark for each peer that goes.
+fn going(s: State, mem: &[u8], clock: u64, endpoint: u32) -> [bool; 16]
+    requires { ⌜ Rep s (now mem) × Midway clock (stateOf s (now mem)) ⌝ }
+    ensures { λ r. ⌜ Going clock endpoint (stateOf s (now (mem .entry))) r ⌝ }
+{
+    let peers = s.peers;
+    let count = peers.count;
+    let mut marks = [false; 16];
+    let mut i = 0;
+    while i < count {
+        let p = peers.list[i];
+        marks[i] = is_going(s.table, mem, clock, endpoint, p);
+        i += 1;
+    }
+    marks
+}
+
+// Some mark is set.
+fn is_some(marks: [bool; 16]) -> bool
+    ensures { λ r. ⌜ r ≡ any (λ b. b) marks ⌝ }
+{
+    let mut i = 0;
+    while i < 16 {
+        if marks[i] {
+            return true;
+        }
+        i += 1;
+    }
+    false
+}
+
+// Our data without the peer's Peer TLV, under the number `seq`.
+fn without_link(s: State, mem: &mut [u8], clock: u64, seq: u32, p: Peer) -> State
+    requires { ⌜ Rep s (now mem) × (Held s (now mem) × (good dataLimit (ownData (stateOf s (now mem))) ≡ true)) ⌝ }
+    ensures { λ r. ⌜ WithoutLink clock seq (peerOf p) (stateOf s (now (mem .entry))) (now (mem .entry)) r (now (mem .exit)) ⌝ }
+{
+    let tlv = peer_tlv(p.node, p.theirs, p.ours);
+    let standing = find_tlv(own_data(s, mem), &tlv);
+    match standing {
+        Standing::At(place) => publish_cut(s, mem, clock, seq, place, 16),
+        Standing::Nowhere => publish_as(s, mem, clock, seq),
+    }
+}
+
+// Our data without the Peer TLVs of the marked peers, under the number `seq`.
+fn without_links(s: State, mem: &mut [u8], clock: u64, seq: u32, marks: [bool; 16]) -> State
+    requires { ⌜ Rep s (now mem) × (Held s (now mem) × (good dataLimit (ownData (stateOf s (now mem))) ≡ true)) ⌝ }
+    ensures { λ r. ⌜ Moved (publishAs clock seq (withoutPeers (keepBy marks (stateOf s (now (mem .entry)) .peers)) (ownData (stateOf s (now (mem .entry))))) (stateOf s (now (mem .entry)))) (now (mem .entry)) r (now (mem .exit)) ⌝ }
+{
+    let peers = s.peers;
+    let mut r = publish_as(s, mem, clock, seq);
+    let mut i = 0;
+    while i < s.peers.count {
+        let p = peers.list[i];
+        let goes = marks[i];
+        i += 1;
+        if !goes {
+            continue;
+        }
+        r = without_link(r, mem, clock, seq, p);
+    }
+    r
+}
+
+// The peers that are not marked, in their order.
+fn staying(p: Peers, marks: [bool; 16]) -> Peers
+    requires { ⌜ PeersRep p ⌝ }
+    ensures { λ r. ⌜ PeersRep r × (peersOf r ≡ keepBy (map not marks) (peersOf p)) ⌝ }
+{
+    let count = p.count;
+    let mut r = p;
+    let mut j = 0;
+    let mut i = 0;
+    while i < count {
+        let e = p.list[i];
+        let goes = marks[i];
+        i += 1;
+        if goes {
+            continue;
+        }
+        r.list[j] = e;
+        j += 1;
+    }
+    r.count = j;
+    r
+}
+
+// Our own age is at the limit at which we publish again.
+fn is_stale(s: State, mem: &[u8], clock: u64) -> bool
+    requires { ⌜ Rep s (now mem) × (Midway clock (stateOf s (now mem)) × (clock ≤ lastReading)) ⌝ }
+    ensures { λ r. ⌜ r ≡ leb refreshAge (ageAt clock (ownEntry (stateOf s (now (mem .entry))))) ⌝ }
+{
+    let i = own_place(s, mem);
+    let e = row_at(s.table, i);
+    4294901760 <= age_at(e, clock)
+}
+
+// We republish: some peer goes, or our age asks for it.
+fn is_republishing(s: State, mem: &[u8], clock: u64, marks: [bool; 16]) -> bool
+    requires { ⌜ Rep s (now mem) × (Midway clock (stateOf s (now mem)) × (clock ≤ lastReading)) ⌝ }
+    ensures { λ r. ⌜ r ≡ any (λ b. b) marks || leb refreshAge (ageAt clock (ownEntry (stateOf s (now (mem .entry))))) ⌝ }
+{
+    if is_some(marks) {
+        return true;
+    }
+    is_stale(s, mem, clock)
+}
+
+// Silent peers of the endpoint go with their Peer TLVs; published once if any went, or if our age asks for it.
+pub fn drop_silent(s: State, mem: &mut [u8], clock: u64, endpoint: u32) -> State
+    requires { ⌜ Rep s (now mem) × (Midway clock (stateOf s (now mem)) × (clock ≤ lastReading)) ⌝ }
+    ensures { λ r. ⌜ Moved (dropSilent clock endpoint (stateOf s (now (mem .entry)))) (now (mem .entry)) r (now (mem .exit)) ⌝ }
+{
+    let marks = going(s, mem, clock, endpoint);
+    if !is_republishing(s, mem, clock, marks) {
+        return s;
+    }
+    let seq = advanced(own_seq(s, mem), 1);
+    let mut r = without_links(s, mem, clock, seq, marks);
+    r.peers = staying(s.peers, marks);
+    r
+}

@@ -1,0 +1,85 @@
+// A tick that is not refused.
+use crate::silence::drop_silent;
+use base::memory::store;
+use message::network_tlv;
+use message::put_endpoint;
+use node::Endpoint;
+use node::State;
+use node::endpoints::endpoint_at;
+use node::endpoints::with_endpoint;
+use node::settle::settle;
+use reach::reach;
+ghost use mathlib.Core.Path.{_≡_};
+ghost use Prim.Native.Nat.{_≤_};
+ghost use lib.ListN.{length};
+ghost use Rattle.base.specs.Memory.{written};
+ghost use mathlib.Core.List.{_++_};
+ghost use Rattle.model.specs.Figures.{mostBytes, lastReading};
+ghost use Rattle.model.specs.Messages.{endpointTlv, networkTlv};
+ghost use Rattle.model.specs.Invariant.{Midway};
+ghost use Rattle.node.specs.View.{stateOf, Rep};
+ghost use Rattle.upkeep.specs.Ticked.{Cleared, TickedFrom};
+
+// The state after a tick, and how many bytes are to be sent.
+pub struct Ticked {
+    pub state: State,
+    pub length: usize,
+}
+
+// Node Endpoint and Network State to the front of the room.
+fn announce(room: &mut [u8], own: u32, endpoint: u32, digest: [u8; 16])
+    requires { ⌜ (32 ≤ length (now room)) × (length digest ≡ 16) ⌝ }
+    ensures { λ r. ⌜ now (room .exit) ≡ written (now (room .entry)) 0 (endpointTlv own endpoint ++ networkTlv digest) ⌝ }
+{
+    put_endpoint(room, 0, own, endpoint);
+    let d = network_tlv(digest);
+    store(room, 12, &d);
+}
+
+// Silent peers gone, and the digest compared.
+fn cleared(s: State, mem: &mut [u8], clock: u64, endpoint: u32, randoms: [u32; 4]) -> State
+    requires { ⌜ Rep s (now mem) × (Midway clock (stateOf s (now mem)) × (clock ≤ lastReading)) ⌝ }
+    ensures { λ r. ⌜ Cleared clock endpoint randoms (stateOf s (now (mem .entry))) (now (mem .entry)) r (now (mem .exit)) ⌝ }
+{
+    let a = drop_silent(s, mem, clock, endpoint);
+    let found = reach(a.table, mem, a.own, clock);
+    let digest = found.digest;
+    settle(a, clock, randoms, digest)
+}
+
+// At most one event on the endpoint, after silent peers have gone and the digest was compared.
+pub fn tick(
+    s: State,
+    mem: &mut [u8],
+    room: &mut [u8],
+    clock: u64,
+    endpoint: u32,
+    randoms: [u32; 4],
+) -> Ticked
+    requires { ⌜ Rep s (now mem) × (Midway clock (stateOf s (now mem)) × ((clock ≤ lastReading) × ((1 ≤ endpoint) × ((endpoint ≤ 4) × (mostBytes ≤ length (now room)))))) ⌝ }
+    ensures { λ r. ⌜ TickedFrom s (now (mem .entry)) (now (room .entry)) clock endpoint randoms r (now (mem .exit)) (now (room .exit)) ⌝ }
+{
+    let b = cleared(s, mem, clock, endpoint, randoms);
+    let e = endpoint_at(b, endpoint);
+    let t = e.trickle;
+    let k = (endpoint - 1) as usize;
+    let v = t.tick(clock, randoms[k]);
+    let next = v.next;
+    let f = Endpoint {
+        trickle: next,
+        next: e.next,
+    };
+    let r = with_endpoint(b, endpoint, f);
+    if !v.sends {
+        return Ticked {
+            state: r,
+            length: 0,
+        };
+    }
+    let digest = r.digest;
+    announce(room, r.own, endpoint, digest);
+    Ticked {
+        state: r,
+        length: 32,
+    }
+}
