@@ -64,7 +64,7 @@ empty-good : good dataLimit [] ≡ true
 unfolding ascending
 empty-good = good-made dataLimit [] tt refl (omega arith)
 
-begun-valid : (own now : ℕ) (rs : List ℕ) → own < circle → now ≤ lastReading → length rs ≡ 4 → Valid (begun own now rs)
+pub begun-valid : (own now : ℕ) (rs : List ℕ) → own < circle → now ≤ lastReading → length rs ≡ 4 → Valid (begun own now rs)
 unfolding begun look
 begun-valid own now rs o l r =
     let q : look own (entryOf own 0 [] 0 now ∷ []) ≡ some (entryOf own 0 [] 0 now) = find-yes idOf own (entryOf own 0 [] 0 now) [] refl in
@@ -104,7 +104,7 @@ module _ (now : ℕ) (rs : List ℕ) (b : Snapshot) (f : SnapshotFits now b) whe
   before-held : look (b .own) (b .entries) ≡ some before
   before-held = found (look (b .own) (b .entries)) (f .table .held)
 
-  before-good : good dataLimit (before .says .nodeData) ≡ true
+  pub before-good : good dataLimit (before .says .nodeData) ≡ true
   unfolding look
   before-good = all-in (EntryFits now) before (b .entries) (f .table .entries) (find-some idOf (b .own) before (b .entries) before-held .0) .fine
 
@@ -114,7 +114,7 @@ module _ (now : ℕ) (rs : List ℕ) (b : Snapshot) (f : SnapshotFits now b) whe
       (record { node = f .own; seq = advance-fits (before .says .seq) 1; fine = none-good (before .says .nodeData) before-good; age = omega arith; since = omega arith })
       (λ z. let y : _≡_ {A = ℕ} 0 1 = cc before-held in absurd (omega arith))
 
-  resumed-valid : now ≤ lastReading → length rs ≡ 4 → Valid (resumed now rs b)
+  pub resumed-valid : now ≤ lastReading → length rs ≡ 4 → Valid (resumed now rs b)
   unfolding resumed republished
   resumed-valid l r =
       started-valid (b .own) now rs (put again (b .entries)) again (f .own) l r again-fits (look-put again (b .entries)) (none-linked (before .says .nodeData) before-good)

@@ -1,0 +1,4 @@
+-- The laws of beginning and resuming.
+pub mod Parting
+pub mod Starting
+pub mod Resuming

@@ -1,0 +1,141 @@
+-- Resuming: what was loaded, published once more without the Peer TLVs, and the digest worked out last. Assumes nothing.
+use mathlib.Core.Path.{_≡_, refl, sym, ap, _∙_, subst}
+use mathlib.Core.Bool.{true, false}
+use mathlib.Core.List.{List}
+use mathlib.Core.Option.{Option, some}
+use Prim.Native.Nat.{ℕ, _≤_}
+use lib.ListN.{length}
+use Rattle.base.specs.Lists.{isSome}
+use Rattle.base.specs.Memory.{cut}
+use Rattle.base.proofs.Tests.{no-way}
+use Rattle.wire.specs.Order.{good}
+use Rattle.model.specs.Figures.{dataLimit, lastReading}
+use Rattle.model.specs.Sequence.{advance}
+use Rattle.model.specs.Table.{look}
+use Rattle.model.specs.State.{State as ModelState, ownEntry, ownSeq, ownData, publishAs}
+use Rattle.model.specs.Begin.{started}
+use Rattle.model.specs.Snapshot.{Snapshot, load, withoutLinks, republished, resumed}
+use Rattle.model.specs.Invariant.{TableFits, SnapshotFits}
+use Rattle.model.proofs.Snapshots.{load-fits}
+use Rattle.model.proofs.KeptCalls.{before-good, resumed-valid}
+use Rattle.table.specs.View.{view, Kept}
+use Rattle.reach.specs.Marks.{Readable}
+use Rattle.snapshot.specs.declared.load.Loaded.{Loaded}
+use Rattle.snapshot.specs.Answers.{LoadedFrom}
+use Rattle.node.specs.declared.State.{State}
+use Rattle.node.specs.View.{stateOf, Rep, Held, Moved}
+use Rattle.node.proofs.Parts.{state-held}
+use Rattle.node.proofs.Moves.{moved-to}
+use Rattle.start.specs.Started.{undigested, digested, unlinked, ResumedFrom}
+use Rattle.start.proofs.Starting.{then-digested, fits-readable}
+
+-- ---- our data published once more
+
+module _ (clock : ℕ) (s : State) (m d : List ℕ) (e : d ≡ ownData (stateOf s m)) where
+  -- the place of the Peer TLVs lies in the data that is cut
+  pub unlinked-within : (n : ℕ) → n ≤ length d → n ≤ length (ownData (stateOf s m))
+  unlinked-within n h = subst (λ (x : List ℕ). n ≤ length x) e h
+
+  pub unlinked-moved : (p k q n : ℕ) → cut d p k ≡ withoutLinks d → q ≡ ownSeq (stateOf s m) → n ≡ advance q 1 → (r : State) (m′ : List ℕ)
+      → Moved (publishAs clock n (cut (ownData (stateOf s m)) p k) (stateOf s m)) m r m′ → Moved (unlinked clock (stateOf s m)) m r m′
+  unfolding unlinked
+  unlinked-moved p k q n w f g r m′ h =
+      moved-to h
+      (ap (λ (x : List ℕ). publishAs clock n x (stateOf s m)) (ap (λ (x : List ℕ). cut x p k) (sym e) ∙ w ∙ ap withoutLinks e)
+      ∙ ap (λ (x : ℕ). publishAs clock x (withoutLinks (ownData (stateOf s m))) (stateOf s m)) (g ∙ ap (λ (x : ℕ). advance x 1) f))
+
+-- ---- the model's state step by step
+
+module _ (now : ℕ) (rs : List ℕ) (b : Snapshot) (f : SnapshotFits now b) where
+  -- started from the entries as they were saved, and as they are once our own is published again
+  abbrev before : ModelState
+  before = undigested (b .own) now rs (b .entries)
+
+  abbrev after : ModelState
+  after = undigested (b .own) now rs (republished now b)
+
+  before-held : isSome (look (before .own) (before .table)) ≡ true
+  unfolding undigested
+  before-held = f .table .held
+
+  before-fine : good dataLimit (ownData before) ≡ true
+  unfolding undigested ownEntry
+  before-fine = before-good now rs b f
+
+  -- the one publishing of the code is the one in the model's table
+  then-after : unlinked now before ≡ after
+  unfolding unlinked undigested publishAs ownEntry republished
+  then-after = refl
+
+  after-fits : now ≤ lastReading → length rs ≡ 4 → TableFits (after .own) now (after .table)
+  unfolding undigested resumed started
+  after-fits l r = resumed-valid now rs b f l r .inside .table
+
+  then-resumed : digested now after ≡ resumed now rs b
+  unfolding resumed
+  then-resumed = then-digested (b .own) now rs (republished now b)
+
+-- ---- and the code's
+
+-- what loads is one snapshot
+one-loads : (o : Option Snapshot) (a b : Snapshot) → o ≡ some a → o ≡ some b → a ≡ b
+one-loads o a b p q = cc
+
+module _ (now : ℕ) (bytes rs m : List ℕ) (s₀ : State) (x : Loaded) (m₁ : List ℕ) (g : LoadedFrom now bytes m x m₁) where
+  -- a snapshot that does not load changes nothing
+  pub resume-refused : x .ok ≡ false → ResumedFrom now bytes rs s₀ m (record { ok = false; state = s₀ }) m₁
+  resume-refused n =
+      record {
+        judged = sym n ∙ g .judged;
+        state = λ z. refl;
+        memory = λ z. g .refused n;
+        resumes = λ b e. no-way (isSome (load now bytes)) (ap isSome e) (sym (g .judged) ∙ n);
+      }
+
+  module _ (t : x .ok ≡ true) where
+    abbrev taken : Snapshot
+    taken = record { own = x .own; entries = view (x .table) m₁ }
+
+    -- so every number is in range and all data good
+    taken-fits : SnapshotFits now taken
+    taken-fits = load-fits now bytes taken (g .loads t)
+
+    module _ (s : State) (w : (k : List ℕ) → Kept (x .table) k → Rep s k × (stateOf s k ≡ undigested (x .own) now rs (view (x .table) k))) where
+      loaded-is : stateOf s m₁ ≡ before now rs taken taken-fits
+      loaded-is = w m₁ (g .kept t) .1
+
+      -- what publishing once more asks
+      pub resume-ready : Rep s m₁ × (Held s m₁ × (good dataLimit (ownData (stateOf s m₁)) ≡ true))
+      resume-ready = (
+        w m₁ (g .kept t) .0,
+        (
+          state-held s m₁ (subst (λ (z : ModelState). isSome (look (z .own) (z .table)) ≡ true) (sym loaded-is) (before-held now rs taken taken-fits)),
+          subst (λ (z : ModelState). good dataLimit (ownData z) ≡ true) (sym loaded-is) (before-fine now rs taken taken-fits),
+        ),
+      )
+
+      module _ (l : now ≤ lastReading) (four : length rs ≡ 4) (r : State) (m₂ : List ℕ) (u : Moved (unlinked now (stateOf s m₁)) m₁ r m₂) where
+        again-is : stateOf r m₂ ≡ after now rs taken taken-fits
+        again-is = u .is ∙ ap (unlinked now) loaded-is ∙ then-after now rs taken taken-fits
+
+        -- what the digest asks
+        pub resume-readable : Rep r m₂ × (Readable now (r .table) m₂ × Held r m₂)
+        resume-readable = (u .rep, fits-readable now r m₂ (u .rep) (after now rs taken taken-fits) again-is (after-fits now rs taken taken-fits l four) l)
+
+        resumed-from : (q : State) → Moved (digested now (stateOf r m₂)) m₂ q m₂ → Moved (resumed now rs taken) m q m₂
+        resumed-from q d =
+            record {
+              rep = d .rep;
+              is = d .is ∙ ap (digested now) again-is ∙ then-resumed now rs taken taken-fits;
+              size = u .size ∙ g .size;
+              beyond = u .beyond ∙ g .beyond;
+            }
+
+        pub resume-done : (q : State) → Moved (digested now (stateOf r m₂)) m₂ q m₂ → ResumedFrom now bytes rs s₀ m (record { ok = true; state = q }) m₂
+        resume-done q d =
+            record {
+              judged = sym t ∙ g .judged;
+              state = λ z. no-way true refl z;
+              memory = λ z. no-way true refl z;
+              resumes = λ b e. subst (λ (z : Snapshot). Moved (resumed now rs z) m q m₂) (one-loads (load now bytes) taken b (g .loads t) e) (resumed-from q d);
+            }
