@@ -1,0 +1,10 @@
+pub mod First
+pub mod Left
+pub mod Answering
+pub mod Numbers
+pub mod Changing
+pub mod Sending
+pub mod Sums
+pub mod Listing
+pub mod Saves
+pub mod Shown

@@ -1,0 +1,96 @@
+-- The identifiers of the marked nodes, one after the other, and what `marks` answers. Assumes nothing.
+use mathlib.Core.Path.{_≡_, sym, ap, _∙_}
+use mathlib.Core.Bool.{Bool, true, false}
+use mathlib.Core.List.{List, [], _∷_, map, map-map}
+use Prim.Native.Nat.{ℕ, _+_, _≤_, _<_}
+use native.Mathlib.Omega.{arith}
+use native.Mathlib.Numerals.{add-one}
+use lib.ListN.{length, getD, take, set, replicate, length-set}
+use lib.Seq.{take-suc-set, take-all}
+use Rattle.base.specs.Lists.{keepBy}
+use Rattle.base.proofs.Lists.{map-append}
+use Rattle.base.proofs.Marks.{keep-by-nil, keep-by-map, keep-by-in, keep-by-out}
+use Rattle.model.specs.Figures.{mostNodes}
+use Rattle.model.specs.Table.{idOf}
+use Rattle.model.specs.Reach.{reached}
+use Rattle.model.specs.Digest.{networkDigest}
+use Rattle.model.specs.Show.{Marks as ModelMarks, refusalMarks, marks}
+use Rattle.table.specs.declared.Entry.{Entry as Row}
+use Rattle.table.specs.declared.Table.{Table}
+use Rattle.table.specs.View.{blank, rowId, live, seen, view}
+use Rattle.reach.specs.declared.Reached.{Reached}
+use Rattle.reach.specs.Marks.{Reaching}
+use Rattle.reach.proofs.Reaching.{reached-by}
+use Rattle.node.specs.declared.State.{State}
+use Rattle.node.specs.View.{stateOf}
+use Rattle.ledger.specs.declared.sum.Nodes.{Nodes}
+use Rattle.ledger.specs.Inner.{Listed}
+use Rattle.ledger.proofs.Answering.{as-refused, as-accepted}
+
+-- ---- the marked rows below place i stand in the first n places of the list
+
+pub record ListedBelow (bs : List Bool) (l : List Row) (list : List ℕ) (n i : ℕ) : Type 0 where
+  pub size : length list ≡ mostNodes
+  pub most : n ≤ i
+  pub is : take n list ≡ map rowId (keepBy bs (take i l))
+
+pub list-start : (bs : List Bool) (l : List Row) (list : List ℕ) → length list ≡ mostNodes → ListedBelow bs l list 0 0
+list-start bs l list h = record { size = h; most = omega arith; is = rw (keep-by-nil {A = Row} bs) }
+
+module _ (bs : List Bool) (l : List Row) (list : List ℕ) (n i : ℕ) (g : ListedBelow bs l list n i) where
+  module _ (p : i < length l) where
+    -- a row that is not marked
+    pub list-stay : getD bs i false ≡ false → ListedBelow bs l list n (i + 1)
+    list-stay b = record { size = g .size; most = omega (arith, g .most); is = g .is ∙ ap (map rowId) (sym (keep-by-out blank bs l i p b)) }
+
+    -- one more
+    pub list-on : (r : Row) (x : List ℕ) → getD bs i false ≡ true → i < mostNodes → r ≡ getD l i blank → x ≡ set list n (r .id) → ListedBelow bs l x (n + 1) (i + 1)
+    list-on r x b s q e =
+        let w : n < length list = omega (arith, g .size, g .most) in
+        record {
+          size = ap length e ∙ length-set list n (r .id) ∙ g .size;
+          most = omega (arith, g .most);
+          is = rw (e, add-one n, take-suc-set list n (r .id) w, g .is, keep-by-in blank bs l i p b, ← q) (sym (map-append rowId (keepBy bs (take i l)) (r ∷ [])));
+        }
+
+  pub list-end : (t : Table) → l ≡ live t → length l ≤ i → i ≤ mostNodes → Listed bs t (record { count = n; list = list })
+  list-end t e p q = record { few = omega (arith, g .most); is = g .is ∙ rw (take-all i l p, e) }
+
+-- ---- as the call answers
+
+abbrev answer : ℕ → List ℕ → List ℕ → ModelMarks
+answer k l d = record { number = k; nodes = l; digest = d }
+
+same-answer : {k : ℕ} {l x d y : List ℕ} → l ≡ x → d ≡ y → answer k l d ≡ answer k x y
+same-answer a b = rw (a, b)
+
+-- the rows' identifiers are the nodes'
+ids-seen : (bs : List Bool) (t : Table) (m : List ℕ) → map rowId (keepBy bs (live t)) ≡ map idOf (keepBy bs (view t m))
+unfolding view
+ids-seen bs t m = rw (keep-by-map (seen m) bs (live t)) (sym (map-map idOf (seen m) (keepBy bs (live t))))
+
+module _ (now table : ℕ) (s : State) (m : List ℕ) (k : ℕ) (e : k ≡ refusalMarks now table (stateOf s m)) where
+  abbrev marking : ModelMarks
+  marking =
+      answer 0 (map idOf (reached (stateOf s m .own) now (stateOf s m .table))) (networkDigest (stateOf s m .own) now (stateOf s m .table))
+
+  abbrev none : ℕ → ModelMarks
+  none n = answer n [] (replicate 16 0)
+
+  pub marks-refused : ¬ (k ≡ 0) → none k ≡ marks now table (stateOf s m)
+  unfolding marks
+  marks-refused z = as-refused k (refusalMarks now table (stateOf s m)) e marking none z
+
+  accepted : k ≡ 0 → marking ≡ marks now table (stateOf s m)
+  unfolding marks
+  accepted z = as-accepted k (refusalMarks now table (stateOf s m)) e marking none z
+
+  module _ (x : Reached) (g : Reaching (s .own) now (view (s .table) m) x) (r : Nodes) (h : Listed (x .marks) (s .table) r) where
+    found : answer 0 (take (r .count) (r .list)) (x .digest) ≡ marking
+    unfolding stateOf
+    found =
+        same-answer (h .is ∙ ids-seen (x .marks) (s .table) m ∙ ap (map idOf) (reached-by (s .own) now (view (s .table) m) (x .marks) (g .marks)))
+        (g .digest)
+
+    pub marks-accepted : k ≡ 0 → answer 0 (take (r .count) (r .list)) (x .digest) ≡ marks now table (stateOf s m)
+    marks-accepted z = found ∙ accepted z

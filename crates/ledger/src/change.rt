@@ -1,0 +1,157 @@
+// Calls that change state.
+use crate::answers::Answer;
+use crate::answers::Done;
+use crate::answers::Sent;
+use crate::refusal;
+use node::State;
+ghost use lib.ListN.{length};
+ghost use Rattle.model.specs.Begin.{begin};
+ghost use Rattle.model.specs.Snapshot.{resume};
+ghost use Rattle.model.specs.Receive.{receive};
+ghost use Rattle.model.specs.Tick.{tick};
+ghost use Rattle.model.specs.Pay.{pay, purge};
+ghost use Rattle.accounts.specs.Tallied.{paymentOf};
+ghost use Rattle.exchange.specs.Received.{callOf};
+ghost use Rattle.node.specs.View.{stateOf};
+ghost use Rattle.ledger.specs.Promises.{AsLeft, Changes, Sends, Answers};
+
+// Our node alone.
+pub fn begin(s: State, mem: &[u8], own: u32, clock: u64, randoms: [u32; 4]) -> Done
+    requires { ⌜ AsLeft s (now mem) ⌝ }
+    ensures { λ r. ⌜ Changes (begin own clock randoms (length (now (mem .entry))) (stateOf s (now (mem .entry)))) s (now (mem .entry)) r (now (mem .entry)) ⌝ }
+{
+    let number = refusal::of_start(clock, mem.len());
+    if number != 0 {
+        return Done { number, state: s };
+    }
+    Done {
+        number: 0,
+        state: start::begin::begin(own, clock, randoms, mem),
+    }
+}
+
+// The node of a snapshot.
+pub fn resume(s: State, mem: &mut [u8], bytes: &[u8], clock: u64, randoms: [u32; 4]) -> Done
+    requires { ⌜ AsLeft s (now mem) ⌝ }
+    ensures { λ r. ⌜ Changes (resume clock (now (bytes .entry)) randoms (length (now (mem .entry))) (stateOf s (now (mem .entry)))) s (now (mem .entry)) r (now (mem .exit)) ⌝ }
+{
+    let number = refusal::of_start(clock, mem.len());
+    if number != 0 {
+        return Done { number, state: s };
+    }
+    let r = start::resume::resume(s, bytes, mem, clock, randoms);
+    let state = r.state;
+    if !r.ok {
+        return Done { number: 11, state };
+    }
+    Done { number: 0, state }
+}
+
+// A datagram that came in on the endpoint; replies are written to the front of the room.
+pub fn receive(
+    s: State,
+    mem: &mut [u8],
+    room: &mut [u8],
+    datagram: &[u8],
+    clock: u64,
+    endpoint: u32,
+    unicast: bool,
+    randoms: [u32; 4],
+) -> Answer
+    requires { ⌜ AsLeft s (now mem) ⌝ }
+    ensures { λ r. ⌜ Answers (receive (callOf (now (datagram .entry)) clock endpoint unicast randoms (length (now (mem .entry))) (length (now (room .entry)))) (stateOf s (now (mem .entry)))) s (now (mem .entry)) (now (room .entry)) r (now (mem .exit)) (now (room .exit)) ⌝ }
+{
+    let number = refusal::of_datagram(s.last, clock, endpoint, mem.len(), room.len(), datagram);
+    if number != 0 {
+        return Answer {
+            number,
+            state: s,
+            length: 0,
+            omitted: 0,
+            dropped: 0,
+        };
+    }
+    let o = exchange::datagram::handle(s, mem, room, datagram, clock, endpoint, unicast, randoms);
+    let state = o.state;
+    Answer {
+        number: 0,
+        state,
+        length: o.length,
+        omitted: o.omitted,
+        dropped: o.dropped,
+    }
+}
+
+// The endpoint's time: silent peers go, and what Trickle says is written to the front of the room.
+pub fn tick(
+    s: State,
+    mem: &mut [u8],
+    room: &mut [u8],
+    clock: u64,
+    endpoint: u32,
+    randoms: [u32; 4],
+) -> Sent
+    requires { ⌜ AsLeft s (now mem) ⌝ }
+    ensures { λ r. ⌜ Sends (tick clock endpoint randoms (length (now (mem .entry))) (length (now (room .entry))) (stateOf s (now (mem .entry)))) s (now (mem .entry)) (now (room .entry)) r (now (mem .exit)) (now (room .exit)) ⌝ }
+{
+    let number = refusal::of_tick(s.last, clock, endpoint, mem.len(), room.len());
+    if number != 0 {
+        return Sent {
+            number,
+            state: s,
+            length: 0,
+        };
+    }
+    let t = upkeep::tick::tick(s, mem, room, clock, endpoint, randoms);
+    let state = t.state;
+    Sent {
+        number: 0,
+        state,
+        length: t.length,
+    }
+}
+
+// A payment of our own, published. The host saves the state before anything is sent.
+pub fn pay(
+    s: State,
+    mem: &mut [u8],
+    clock: u64,
+    household: u32,
+    receipt: u32,
+    amount: i32,
+    randoms: [u32; 4],
+) -> Done
+    requires { ⌜ AsLeft s (now mem) ⌝ }
+    ensures { λ r. ⌜ Changes (pay clock (paymentOf household receipt amount) randoms (length (now (mem .entry))) (stateOf s (now (mem .entry)))) s (now (mem .entry)) r (now (mem .exit)) ⌝ }
+{
+    let early = refusal::of_household(s.last, clock, mem.len(), household);
+    if early != 0 {
+        return Done {
+            number: early,
+            state: s,
+        };
+    }
+    let number = accounts::pay::refusal(s, mem, clock, household, receipt, amount);
+    if number != 0 {
+        return Done { number, state: s };
+    }
+    Done {
+        number: 0,
+        state: accounts::pay::pay(s, mem, clock, household, receipt, amount, randoms),
+    }
+}
+
+// Only the reachable nodes stay.
+pub fn purge(s: State, mem: &[u8], clock: u64, randoms: [u32; 4]) -> Done
+    requires { ⌜ AsLeft s (now mem) ⌝ }
+    ensures { λ r. ⌜ Changes (purge clock randoms (length (now (mem .entry))) (stateOf s (now (mem .entry)))) s (now (mem .entry)) r (now (mem .entry)) ⌝ }
+{
+    let number = refusal::of_table(s.last, clock, mem.len());
+    if number != 0 {
+        return Done { number, state: s };
+    }
+    Done {
+        number: 0,
+        state: accounts::purge::purge(s, mem, clock, randoms),
+    }
+}

@@ -1,0 +1,118 @@
+// The numbers that a call may answer, the first of its order that applies (document 01, Numbers a call may answer).
+use wire::row::is_row;
+ghost use mathlib.Core.Path.{_≡_};
+ghost use mathlib.Core.List.{List, [], _∷_};
+ghost use Prim.Native.Nat.{ℕ};
+ghost use lib.ListN.{length};
+ghost use Rattle.model.specs.Figures.{mostBytes, snapshotBytes};
+ghost use Rattle.model.specs.State.{State as ModelState};
+ghost use Rattle.model.specs.Refusals.{firstOf, late, back, noSuchEndpoint, smallTable, smallRoom, long, noRow, noHousehold};
+
+// 1 and 4: what begins.
+pub fn of_start(clock: u64, table: usize) -> u32
+    ensures { λ r. ⌜ r ≡ firstOf (late clock ∷ smallTable table ∷ []) ⌝ }
+{
+    if 4611686018427387903 < clock {
+        return 1;
+    }
+    if table < 32768 {
+        return 4;
+    }
+    0
+}
+
+// 1, 2 and 4: the clock, and the table memory.
+pub fn of_table(last: u64, clock: u64, table: usize) -> u32
+    ensures { λ r. ⌜ ((s : ModelState) → s .last ≡ last → r ≡ firstOf (late clock ∷ back clock s ∷ smallTable table ∷ [])) ⌝ }
+{
+    if 4611686018427387903 < clock {
+        return 1;
+    }
+    if clock < last {
+        return 2;
+    }
+    if table < 32768 {
+        return 4;
+    }
+    0
+}
+
+// 1, 2, 4 and 7: a household besides.
+pub fn of_household(last: u64, clock: u64, table: usize, household: u32) -> u32
+    ensures { λ r. ⌜ ((s : ModelState) → s .last ≡ last → r ≡ firstOf (late clock ∷ back clock s ∷ smallTable table ∷ noHousehold household ∷ [])) ⌝ }
+{
+    let early = of_table(last, clock, table);
+    if early != 0 {
+        return early;
+    }
+    if household < 1 {
+        return 7;
+    }
+    if 9999 < household {
+        return 7;
+    }
+    0
+}
+
+// 1, 2 and 4: the clock, the table memory and the room for a snapshot.
+pub fn of_save(last: u64, clock: u64, table: usize, room: usize) -> u32
+    ensures { λ r. ⌜ ((s : ModelState) → s .last ≡ last → r ≡ firstOf (late clock ∷ back clock s ∷ smallRoom table room snapshotBytes ∷ [])) ⌝ }
+{
+    let early = of_table(last, clock, table);
+    if early != 0 {
+        return early;
+    }
+    if room < 33319 {
+        return 4;
+    }
+    0
+}
+
+// 1 to 4: the clock, the endpoint, and lent memory for what is sent.
+pub fn of_tick(last: u64, clock: u64, endpoint: u32, table: usize, room: usize) -> u32
+    ensures { λ r. ⌜ ((s : ModelState) → s .last ≡ last → r ≡ firstOf (late clock ∷ back clock s ∷ noSuchEndpoint endpoint ∷ smallRoom table room mostBytes ∷ [])) ⌝ }
+{
+    if 4611686018427387903 < clock {
+        return 1;
+    }
+    if clock < last {
+        return 2;
+    }
+    if endpoint < 1 {
+        return 3;
+    }
+    if 4 < endpoint {
+        return 3;
+    }
+    if table < 32768 {
+        return 4;
+    }
+    if room < 4096 {
+        return 4;
+    }
+    0
+}
+
+// 1 to 6: the datagram besides.
+pub fn of_datagram(
+    last: u64,
+    clock: u64,
+    endpoint: u32,
+    table: usize,
+    room: usize,
+    datagram: &[u8],
+) -> u32
+    ensures { λ r. ⌜ ((s : ModelState) → s .last ≡ last → r ≡ firstOf (late clock ∷ back clock s ∷ noSuchEndpoint endpoint ∷ smallRoom table room mostBytes ∷ long (now (datagram .entry)) ∷ noRow (now (datagram .entry)) ∷ [])) ⌝ }
+{
+    let early = of_tick(last, clock, endpoint, table, room);
+    if early != 0 {
+        return early;
+    }
+    if 4096 < datagram.len() {
+        return 5;
+    }
+    if !is_row(datagram) {
+        return 6;
+    }
+    0
+}
