@@ -1,19 +1,23 @@
 -- What the public calls promise: answers, state and every lent buffer are those of the model's calls. Assumes nothing.
 use mathlib.Core.Path.{_≡_}
+use mathlib.Core.Bool.{Bool}
 use mathlib.Core.List.{List}
 use Prim.Native.Nat.{ℕ, _+_, _*_, _≤_}
 use lib.ListN.{length, take, drop}
 use Rattle.model.specs.Figures.{dataLimit, tableBytes}
-use Rattle.model.specs.Begin.{Done as ModelDone}
-use Rattle.model.specs.Tick.{Sent as ModelSent}
-use Rattle.model.specs.Receive.{Call, Answer as ModelAnswer}
-use Rattle.model.specs.Totals.{Summed as ModelSummed}
-use Rattle.model.specs.Show.{Marks as ModelMarks, shown, refusalShow}
-use Rattle.model.specs.Snapshot.{Saved as ModelSaved}
+use Rattle.wire.specs.Payment.{Payment}
+use Rattle.model.specs.Begin.{Done as ModelDone, blank, begin}
+use Rattle.model.specs.Tick.{Sent as ModelSent, tick}
+use Rattle.model.specs.Receive.{Answer as ModelAnswer, receive}
+use Rattle.model.specs.Pay.{pay, purge}
+use Rattle.model.specs.Totals.{Summed as ModelSummed, total, sum}
+use Rattle.model.specs.Show.{Marks as ModelMarks, marks, shown, refusalShow}
+use Rattle.model.specs.Snapshot.{Saved as ModelSaved, resume, save}
 use Rattle.model.specs.Invariant.{Valid}
 use Rattle.table.specs.View.{live, rowAt, Rows, Hashed, Stands}
 use Rattle.node.specs.View.{stateOf, PeersRep}
 use Rattle.node.specs.declared.State.{State}
+use Rattle.exchange.specs.Received.{callOf}
 use Rattle.ledger.specs.declared.answers.Done.{Done}
 use Rattle.ledger.specs.declared.answers.Sent.{Sent}
 use Rattle.ledger.specs.declared.answers.Answer.{Answer}
@@ -87,3 +91,43 @@ pub record Shows (n : ℕ) (s : State) (m : List ℕ) (r : Extent) : Type 0 wher
   pub within : r .start + r .length ≤ length m
   pub slot : refusalShow n (length m) (stateOf s m) ≡ 0 → (i : ℕ) → Stands (s .table) n i → r .start ≡ rowAt (s .table) i .slot * dataLimit
   pub refused : ¬ (refusalShow n (length m) (stateOf s m) ≡ 0) → (r .start ≡ 0) × (r .length ≡ 0)
+
+-- ---- the calls, each by its name: s and m are state and table memory that came in, r is the answer, m′ the memory after it; q and q′ the room
+
+-- whatever the table memory
+abbrev pub Blank : State → Type 0
+Blank r = (m : List ℕ) → AsLeft r m × (stateOf r m ≡ blank)
+
+abbrev pub Begins : ℕ → ℕ → List ℕ → State → List ℕ → Done → Type 0
+Begins own clock randoms s m r = Changes (begin own clock randoms (length m) (stateOf s m)) s m r m
+
+abbrev pub Resumes : List ℕ → ℕ → List ℕ → State → List ℕ → Done → List ℕ → Type 0
+Resumes bytes clock randoms s m r m′ = Changes (resume clock bytes randoms (length m) (stateOf s m)) s m r m′
+
+abbrev pub Receives : List ℕ → ℕ → ℕ → Bool → List ℕ → State → List ℕ → List ℕ → Answer → List ℕ → List ℕ → Type 0
+Receives datagram clock endpoint unicast randoms s m q r m′ q′ =
+    Answers (receive (callOf datagram clock endpoint unicast randoms (length m) (length q)) (stateOf s m)) s m q r m′ q′
+
+abbrev pub Ticks : ℕ → ℕ → List ℕ → State → List ℕ → List ℕ → Sent → List ℕ → List ℕ → Type 0
+Ticks clock endpoint randoms s m q r m′ q′ = Sends (tick clock endpoint randoms (length m) (length q) (stateOf s m)) s m q r m′ q′
+
+abbrev pub Pays : ℕ → Payment → List ℕ → State → List ℕ → Done → List ℕ → Type 0
+Pays clock p randoms s m r m′ = Changes (pay clock p randoms (length m) (stateOf s m)) s m r m′
+
+abbrev pub Purges : ℕ → List ℕ → State → List ℕ → Done → Type 0
+Purges clock randoms s m r = Changes (purge clock randoms (length m) (stateOf s m)) s m r m
+
+abbrev pub Totals : ℕ → ℕ → State → List ℕ → Summed → Type 0
+Totals clock household s m r = summedOf r ≡ total clock household (length m) (stateOf s m)
+
+abbrev pub SumsUp : ℕ → State → List ℕ → Summed → Type 0
+SumsUp clock s m r = summedOf r ≡ sum clock (length m) (stateOf s m)
+
+abbrev pub Marks : ℕ → State → List ℕ → Marked → Type 0
+Marks clock s m r = marksOf r ≡ marks clock (length m) (stateOf s m)
+
+abbrev pub Saves : ℕ → State → List ℕ → List ℕ → Saved → List ℕ → Type 0
+Saves clock s m q r q′ = SavesTo (save clock (length m) (length q) (stateOf s m)) q r q′
+
+abbrev pub ShowRefuses : ℕ → State → List ℕ → ℕ → Type 0
+ShowRefuses n s m r = r ≡ refusalShow n (length m) (stateOf s m)

@@ -6,12 +6,7 @@ use node::peers::Peers;
 use table::Entry;
 use table::Table;
 use trickle::Trickle;
-ghost use mathlib.Core.Path.{_≡_};
-ghost use mathlib.Core.List.{List};
-ghost use Prim.Native.Nat.{ℕ};
-ghost use Rattle.model.specs.Begin.{blank};
-ghost use Rattle.node.specs.View.{stateOf};
-ghost use Rattle.ledger.specs.Promises.{AsLeft};
+ghost use Rattle.ledger.specs.Promises.{Blank};
 
 // H of no bytes.
 const EMPTY: [u8; 16] = [
@@ -55,7 +50,7 @@ const ALONE: [u8; 16] = [
 
 // Node 0, begun at reading 0 with random numbers 0, with whatever table memory.
 pub fn blank() -> State
-    ensures { λ r. ⌜ ((m : List ℕ) → AsLeft r m × (stateOf r m ≡ blank)) ⌝ }
+    ensures { λ r. ⌜ Blank r ⌝ }
 {
     let ours = Entry {
         id: 0,

@@ -4,21 +4,13 @@ use crate::answers::Done;
 use crate::answers::Sent;
 use crate::refusal;
 use node::State;
-ghost use lib.ListN.{length};
-ghost use Rattle.model.specs.Begin.{begin};
-ghost use Rattle.model.specs.Snapshot.{resume};
-ghost use Rattle.model.specs.Receive.{receive};
-ghost use Rattle.model.specs.Tick.{tick};
-ghost use Rattle.model.specs.Pay.{pay, purge};
 ghost use Rattle.accounts.specs.Tallied.{paymentOf};
-ghost use Rattle.exchange.specs.Received.{callOf};
-ghost use Rattle.node.specs.View.{stateOf};
-ghost use Rattle.ledger.specs.Promises.{AsLeft, Changes, Sends, Answers};
+ghost use Rattle.ledger.specs.Promises.{AsLeft, Begins, Resumes, Receives, Ticks, Pays, Purges};
 
 // Our node alone.
 pub fn begin(s: State, mem: &[u8], own: u32, clock: u64, randoms: [u32; 4]) -> Done
     requires { ⌜ AsLeft s (now mem) ⌝ }
-    ensures { λ r. ⌜ Changes (begin own clock randoms (length (now (mem .entry))) (stateOf s (now (mem .entry)))) s (now (mem .entry)) r (now (mem .entry)) ⌝ }
+    ensures { λ r. ⌜ Begins own clock randoms s (now (mem .entry)) r ⌝ }
 {
     let number = refusal::of_start(clock, mem.len());
     if number != 0 {
@@ -33,7 +25,7 @@ pub fn begin(s: State, mem: &[u8], own: u32, clock: u64, randoms: [u32; 4]) -> D
 // The node of a snapshot.
 pub fn resume(s: State, mem: &mut [u8], bytes: &[u8], clock: u64, randoms: [u32; 4]) -> Done
     requires { ⌜ AsLeft s (now mem) ⌝ }
-    ensures { λ r. ⌜ Changes (resume clock (now (bytes .entry)) randoms (length (now (mem .entry))) (stateOf s (now (mem .entry)))) s (now (mem .entry)) r (now (mem .exit)) ⌝ }
+    ensures { λ r. ⌜ Resumes (now (bytes .entry)) clock randoms s (now (mem .entry)) r (now (mem .exit)) ⌝ }
 {
     let number = refusal::of_start(clock, mem.len());
     if number != 0 {
@@ -59,7 +51,7 @@ pub fn receive(
     randoms: [u32; 4],
 ) -> Answer
     requires { ⌜ AsLeft s (now mem) ⌝ }
-    ensures { λ r. ⌜ Answers (receive (callOf (now (datagram .entry)) clock endpoint unicast randoms (length (now (mem .entry))) (length (now (room .entry)))) (stateOf s (now (mem .entry)))) s (now (mem .entry)) (now (room .entry)) r (now (mem .exit)) (now (room .exit)) ⌝ }
+    ensures { λ r. ⌜ Receives (now (datagram .entry)) clock endpoint unicast randoms s (now (mem .entry)) (now (room .entry)) r (now (mem .exit)) (now (room .exit)) ⌝ }
 {
     let number = refusal::of_datagram(s.last, clock, endpoint, mem.len(), room.len(), datagram);
     if number != 0 {
@@ -92,7 +84,7 @@ pub fn tick(
     randoms: [u32; 4],
 ) -> Sent
     requires { ⌜ AsLeft s (now mem) ⌝ }
-    ensures { λ r. ⌜ Sends (tick clock endpoint randoms (length (now (mem .entry))) (length (now (room .entry))) (stateOf s (now (mem .entry)))) s (now (mem .entry)) (now (room .entry)) r (now (mem .exit)) (now (room .exit)) ⌝ }
+    ensures { λ r. ⌜ Ticks clock endpoint randoms s (now (mem .entry)) (now (room .entry)) r (now (mem .exit)) (now (room .exit)) ⌝ }
 {
     let number = refusal::of_tick(s.last, clock, endpoint, mem.len(), room.len());
     if number != 0 {
@@ -122,7 +114,7 @@ pub fn pay(
     randoms: [u32; 4],
 ) -> Done
     requires { ⌜ AsLeft s (now mem) ⌝ }
-    ensures { λ r. ⌜ Changes (pay clock (paymentOf household receipt amount) randoms (length (now (mem .entry))) (stateOf s (now (mem .entry)))) s (now (mem .entry)) r (now (mem .exit)) ⌝ }
+    ensures { λ r. ⌜ Pays clock (paymentOf household receipt amount) randoms s (now (mem .entry)) r (now (mem .exit)) ⌝ }
 {
     let early = refusal::of_household(s.last, clock, mem.len(), household);
     if early != 0 {
@@ -144,7 +136,7 @@ pub fn pay(
 // Only the reachable nodes stay.
 pub fn purge(s: State, mem: &[u8], clock: u64, randoms: [u32; 4]) -> Done
     requires { ⌜ AsLeft s (now mem) ⌝ }
-    ensures { λ r. ⌜ Changes (purge clock randoms (length (now (mem .entry))) (stateOf s (now (mem .entry)))) s (now (mem .entry)) r (now (mem .entry)) ⌝ }
+    ensures { λ r. ⌜ Purges clock randoms s (now (mem .entry)) r ⌝ }
 {
     let number = refusal::of_table(s.last, clock, mem.len());
     if number != 0 {

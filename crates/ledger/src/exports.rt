@@ -7,25 +7,12 @@ use crate::answers::Saved;
 use crate::answers::Sent;
 use crate::answers::Summed;
 use node::State;
-ghost use mathlib.Core.Path.{_≡_};
-ghost use mathlib.Core.List.{List};
-ghost use Prim.Native.Nat.{ℕ};
-ghost use lib.ListN.{length};
-ghost use Rattle.model.specs.Begin.{blank, begin};
-ghost use Rattle.model.specs.Snapshot.{resume, save};
-ghost use Rattle.model.specs.Receive.{receive};
-ghost use Rattle.model.specs.Tick.{tick};
-ghost use Rattle.model.specs.Pay.{pay, purge};
-ghost use Rattle.model.specs.Totals.{total, sum};
-ghost use Rattle.model.specs.Show.{marks, refusalShow};
 ghost use Rattle.accounts.specs.Tallied.{paymentOf};
-ghost use Rattle.exchange.specs.Received.{callOf};
-ghost use Rattle.node.specs.View.{stateOf};
-ghost use Rattle.ledger.specs.Promises.{AsLeft, Changes, Sends, Answers, summedOf, marksOf, SavesTo, Shows};
+ghost use Rattle.ledger.specs.Promises.{AsLeft, Blank, Begins, Resumes, Receives, Ticks, Pays, Purges, Totals, SumsUp, Marks, Saves, Shows, ShowRefuses};
 
 #[no_mangle]
 pub extern "C" fn pingvratha_blank() -> State
-    ensures { λ r. ⌜ ((m : List ℕ) → AsLeft r m × (stateOf r m ≡ blank)) ⌝ }
+    ensures { λ r. ⌜ Blank r ⌝ }
 {
     crate::blank::blank()
 }
@@ -39,7 +26,7 @@ pub extern "C" fn pingvratha_begin(
     randoms: &[u32; 4],
 ) -> Done
     requires { ⌜ AsLeft s (now mem) ⌝ }
-    ensures { λ r. ⌜ Changes (begin own clock (now (randoms .entry)) (length (now (mem .entry))) (stateOf s (now (mem .entry)))) s (now (mem .entry)) r (now (mem .entry)) ⌝ }
+    ensures { λ r. ⌜ Begins own clock (now (randoms .entry)) s (now (mem .entry)) r ⌝ }
 {
     let d = *randoms;
     crate::change::begin(s, mem, own, clock, d)
@@ -54,7 +41,7 @@ pub extern "C" fn pingvratha_resume(
     randoms: &[u32; 4],
 ) -> Done
     requires { ⌜ AsLeft s (now mem) ⌝ }
-    ensures { λ r. ⌜ Changes (resume clock (now (bytes .entry)) (now (randoms .entry)) (length (now (mem .entry))) (stateOf s (now (mem .entry)))) s (now (mem .entry)) r (now (mem .exit)) ⌝ }
+    ensures { λ r. ⌜ Resumes (now (bytes .entry)) clock (now (randoms .entry)) s (now (mem .entry)) r (now (mem .exit)) ⌝ }
 {
     let d = *randoms;
     crate::change::resume(s, mem, bytes, clock, d)
@@ -72,7 +59,7 @@ pub extern "C" fn pingvratha_receive(
     randoms: &[u32; 4],
 ) -> Answer
     requires { ⌜ AsLeft s (now mem) ⌝ }
-    ensures { λ r. ⌜ Answers (receive (callOf (now (datagram .entry)) clock endpoint unicast (now (randoms .entry)) (length (now (mem .entry))) (length (now (room .entry)))) (stateOf s (now (mem .entry)))) s (now (mem .entry)) (now (room .entry)) r (now (mem .exit)) (now (room .exit)) ⌝ }
+    ensures { λ r. ⌜ Receives (now (datagram .entry)) clock endpoint unicast (now (randoms .entry)) s (now (mem .entry)) (now (room .entry)) r (now (mem .exit)) (now (room .exit)) ⌝ }
 {
     let d = *randoms;
     crate::change::receive(s, mem, room, datagram, clock, endpoint, unicast, d)
@@ -88,7 +75,7 @@ pub extern "C" fn pingvratha_tick(
     randoms: &[u32; 4],
 ) -> Sent
     requires { ⌜ AsLeft s (now mem) ⌝ }
-    ensures { λ r. ⌜ Sends (tick clock endpoint (now (randoms .entry)) (length (now (mem .entry))) (length (now (room .entry))) (stateOf s (now (mem .entry)))) s (now (mem .entry)) (now (room .entry)) r (now (mem .exit)) (now (room .exit)) ⌝ }
+    ensures { λ r. ⌜ Ticks clock endpoint (now (randoms .entry)) s (now (mem .entry)) (now (room .entry)) r (now (mem .exit)) (now (room .exit)) ⌝ }
 {
     let d = *randoms;
     crate::change::tick(s, mem, room, clock, endpoint, d)
@@ -105,7 +92,7 @@ pub extern "C" fn pingvratha_pay(
     randoms: &[u32; 4],
 ) -> Done
     requires { ⌜ AsLeft s (now mem) ⌝ }
-    ensures { λ r. ⌜ Changes (pay clock (paymentOf household receipt amount) (now (randoms .entry)) (length (now (mem .entry))) (stateOf s (now (mem .entry)))) s (now (mem .entry)) r (now (mem .exit)) ⌝ }
+    ensures { λ r. ⌜ Pays clock (paymentOf household receipt amount) (now (randoms .entry)) s (now (mem .entry)) r (now (mem .exit)) ⌝ }
 {
     let d = *randoms;
     crate::change::pay(s, mem, clock, household, receipt, amount, d)
@@ -114,7 +101,7 @@ pub extern "C" fn pingvratha_pay(
 #[no_mangle]
 pub extern "C" fn pingvratha_purge(s: State, mem: &[u8], clock: u64, randoms: &[u32; 4]) -> Done
     requires { ⌜ AsLeft s (now mem) ⌝ }
-    ensures { λ r. ⌜ Changes (purge clock (now (randoms .entry)) (length (now (mem .entry))) (stateOf s (now (mem .entry)))) s (now (mem .entry)) r (now (mem .entry)) ⌝ }
+    ensures { λ r. ⌜ Purges clock (now (randoms .entry)) s (now (mem .entry)) r ⌝ }
 {
     let d = *randoms;
     crate::change::purge(s, mem, clock, d)
@@ -123,7 +110,7 @@ pub extern "C" fn pingvratha_purge(s: State, mem: &[u8], clock: u64, randoms: &[
 #[no_mangle]
 pub extern "C" fn pingvratha_total(s: State, mem: &[u8], clock: u64, household: u32) -> Summed
     requires { ⌜ AsLeft s (now mem) ⌝ }
-    ensures { λ r. ⌜ summedOf r ≡ total clock household (length (now (mem .entry))) (stateOf s (now (mem .entry))) ⌝ }
+    ensures { λ r. ⌜ Totals clock household s (now (mem .entry)) r ⌝ }
 {
     crate::sum::total(s, mem, clock, household)
 }
@@ -131,7 +118,7 @@ pub extern "C" fn pingvratha_total(s: State, mem: &[u8], clock: u64, household: 
 #[no_mangle]
 pub extern "C" fn pingvratha_sum(s: State, mem: &[u8], clock: u64) -> Summed
     requires { ⌜ AsLeft s (now mem) ⌝ }
-    ensures { λ r. ⌜ summedOf r ≡ sum clock (length (now (mem .entry))) (stateOf s (now (mem .entry))) ⌝ }
+    ensures { λ r. ⌜ SumsUp clock s (now (mem .entry)) r ⌝ }
 {
     crate::sum::sum(s, mem, clock)
 }
@@ -139,7 +126,7 @@ pub extern "C" fn pingvratha_sum(s: State, mem: &[u8], clock: u64) -> Summed
 #[no_mangle]
 pub extern "C" fn pingvratha_marks(s: State, mem: &[u8], clock: u64) -> Marked
     requires { ⌜ AsLeft s (now mem) ⌝ }
-    ensures { λ r. ⌜ marksOf r ≡ marks clock (length (now (mem .entry))) (stateOf s (now (mem .entry))) ⌝ }
+    ensures { λ r. ⌜ Marks clock s (now (mem .entry)) r ⌝ }
 {
     crate::sum::marks(s, mem, clock)
 }
@@ -147,7 +134,7 @@ pub extern "C" fn pingvratha_marks(s: State, mem: &[u8], clock: u64) -> Marked
 #[no_mangle]
 pub extern "C" fn pingvratha_save(s: State, mem: &[u8], room: &mut [u8], clock: u64) -> Saved
     requires { ⌜ AsLeft s (now mem) ⌝ }
-    ensures { λ r. ⌜ SavesTo (save clock (length (now (mem .entry))) (length (now (room .entry))) (stateOf s (now (mem .entry)))) (now (room .entry)) r (now (room .exit)) ⌝ }
+    ensures { λ r. ⌜ Saves clock s (now (mem .entry)) (now (room .entry)) r (now (room .exit)) ⌝ }
 {
     crate::sum::save(s, mem, room, clock)
 }
@@ -163,7 +150,7 @@ pub extern "C" fn pingvratha_show(s: State, mem: &[u8], node: u32) -> Extent
 #[no_mangle]
 pub extern "C" fn pingvratha_show_refusal(s: State, mem: &[u8], node: u32) -> u32
     requires { ⌜ AsLeft s (now mem) ⌝ }
-    ensures { λ r. ⌜ r ≡ refusalShow node (length (now (mem .entry))) (stateOf s (now (mem .entry))) ⌝ }
+    ensures { λ r. ⌜ ShowRefuses node s (now (mem .entry)) r ⌝ }
 {
     crate::show::show_refusal(s, mem, node)
 }

@@ -7,16 +7,14 @@ use table::find;
 use table::row_at;
 ghost use mathlib.Core.Path.{_≡_};
 ghost use Prim.Native.Nat.{_+_};
-ghost use lib.ListN.{length, take, drop};
-ghost use Rattle.model.specs.Show.{refusalShow};
-ghost use Rattle.node.specs.View.{stateOf};
 ghost use Rattle.ledger.specs.declared.answers.Extent.{Extent};
-ghost use Rattle.ledger.specs.Promises.{AsLeft, Shows};
+ghost use lib.ListN.{take, drop};
+ghost use Rattle.ledger.specs.Promises.{AsLeft, Shows, ShowRefuses};
 
 // 4 or 10: why nothing is shown; 0 where the data are.
 pub fn show_refusal(s: State, mem: &[u8], node: u32) -> u32
     requires { ⌜ AsLeft s (now mem) ⌝ }
-    ensures { λ r. ⌜ r ≡ refusalShow node (length (now (mem .entry))) (stateOf s (now (mem .entry))) ⌝ }
+    ensures { λ r. ⌜ ShowRefuses node s (now (mem .entry)) r ⌝ }
 {
     if mem.len() < 32768 {
         return 4;

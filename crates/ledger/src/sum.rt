@@ -9,17 +9,12 @@ use node::State;
 use reach::reach;
 use table::Table;
 use table::row_at;
-ghost use mathlib.Core.Path.{_≡_};
 ghost use Prim.Native.Nat.{_≤_};
-ghost use lib.ListN.{length};
 ghost use Rattle.model.specs.Figures.{lastReading};
-ghost use Rattle.model.specs.Totals.{total, sum};
-ghost use Rattle.model.specs.Show.{marks};
-ghost use Rattle.model.specs.Snapshot.{save};
 ghost use Rattle.model.specs.Invariant.{Midway};
 ghost use Rattle.table.specs.View.{Rows};
 ghost use Rattle.node.specs.View.{stateOf, Rep};
-ghost use Rattle.ledger.specs.Promises.{AsLeft, summedOf, marksOf, SavesTo};
+ghost use Rattle.ledger.specs.Promises.{AsLeft, Totals, SumsUp, Marks, Saves};
 ghost use Rattle.ledger.specs.Inner.{Summing, Listed};
 
 // What is summed over the reachable nodes.
@@ -40,7 +35,7 @@ fn summed(s: State, mem: &[u8], clock: u64, w: Whose) -> Summed
 // A household's total over the reachable nodes.
 pub fn total(s: State, mem: &[u8], clock: u64, household: u32) -> Summed
     requires { ⌜ AsLeft s (now mem) ⌝ }
-    ensures { λ r. ⌜ summedOf r ≡ total clock household (length (now (mem .entry))) (stateOf s (now (mem .entry))) ⌝ }
+    ensures { λ r. ⌜ Totals clock household s (now (mem .entry)) r ⌝ }
 {
     let number = refusal::of_household(s.last, clock, mem.len(), household);
     if number != 0 {
@@ -64,7 +59,7 @@ pub fn total(s: State, mem: &[u8], clock: u64, household: u32) -> Summed
 // The sum over all households.
 pub fn sum(s: State, mem: &[u8], clock: u64) -> Summed
     requires { ⌜ AsLeft s (now mem) ⌝ }
-    ensures { λ r. ⌜ summedOf r ≡ sum clock (length (now (mem .entry))) (stateOf s (now (mem .entry))) ⌝ }
+    ensures { λ r. ⌜ SumsUp clock s (now (mem .entry)) r ⌝ }
 {
     let number = refusal::of_table(s.last, clock, mem.len());
     if number != 0 {
@@ -114,7 +109,7 @@ fn marked_nodes(t: Table, marks: [bool; 32]) -> Nodes
 // The reachable nodes and the network digest.
 pub fn marks(s: State, mem: &[u8], clock: u64) -> Marked
     requires { ⌜ AsLeft s (now mem) ⌝ }
-    ensures { λ r. ⌜ marksOf r ≡ marks clock (length (now (mem .entry))) (stateOf s (now (mem .entry))) ⌝ }
+    ensures { λ r. ⌜ Marks clock s (now (mem .entry)) r ⌝ }
 {
     let number = refusal::of_table(s.last, clock, mem.len());
     if number != 0 {
@@ -141,7 +136,7 @@ pub fn marks(s: State, mem: &[u8], clock: u64) -> Marked
 // The snapshot, written to the front of the room.
 pub fn save(s: State, mem: &[u8], room: &mut [u8], clock: u64) -> Saved
     requires { ⌜ AsLeft s (now mem) ⌝ }
-    ensures { λ r. ⌜ SavesTo (save clock (length (now (mem .entry))) (length (now (room .entry))) (stateOf s (now (mem .entry)))) (now (room .entry)) r (now (room .exit)) ⌝ }
+    ensures { λ r. ⌜ Saves clock s (now (mem .entry)) (now (room .entry)) r (now (room .exit)) ⌝ }
 {
     let number = refusal::of_save(s.last, clock, mem.len(), room.len());
     if number != 0 {

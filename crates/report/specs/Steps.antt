@@ -1,0 +1,90 @@
+-- What the steps of the report leave: text at a place of the room, and a sum and a mark for each household. Assumes nothing.
+use mathlib.Core.Path.{_≡_}
+use mathlib.Core.Bool.{Bool, true, false, cond, _||_}
+use mathlib.Core.List.{List, map}
+use mathlib.Core.Option.{Option, none, some}
+use Prim.Native.Nat.{ℕ, _+_, _*_, _≤_, _<_}
+use lib.ListN.{length, getD, set}
+use lib.Dec.{eqb}
+use lib.IntN.{ℤ, pos, _+ℤ_}
+use lib.Signed.{mag}
+use Rattle.base.specs.Lists.{any, keep, joinAll}
+use Rattle.base.specs.Memory.{written}
+use Rattle.wire.specs.Payment.{Payment, mostHousehold, readPayment}
+use Rattle.model.specs.Table.{Statement}
+use Rattle.model.specs.Totals.{paymentsIn, readable, totalOf}
+use Rattle.accounts.specs.Tallied.{amountLimit}
+use Rattle.report.specs.Report.{decimal, line, upTo}
+
+-- the text s stands at place `at` of the room, r is the place after it, and every other byte stays
+pub record Put (s room : List ℕ) (at : ℕ) (room′ : List ℕ) (r : ℕ) : Type 0 where
+  pub there : room′ ≡ written room at s
+  pub next : r ≡ at + length s
+
+-- ---- a sum and a mark for each household, at the place of its number
+
+abbrev pub households : ℕ
+households = mostHousehold + 1
+
+pub record Wide (s : List ℤ) (b : List Bool) : Type 0 where
+  pub sums : households ≤ length s
+  pub marks : households ≤ length b
+
+abbrev pub sumAt : List ℤ → ℕ → ℤ
+sumAt s h = getD s h (pos 0)
+
+abbrev pub markAt : List Bool → ℕ → Bool
+markAt b h = getD b h false
+
+-- every sum is one of k payments at most
+pub record Small (k : ℕ) (s : List ℤ) : Type 0 where
+  pub each : (h : ℕ) → h < households → mag (sumAt s h) ≤ k * amountLimit
+
+-- nothing is summed yet
+pub record Cleared (s : List ℤ) (b : List Bool) : Type 0 where
+  pub sums : (h : ℕ) → h < households → sumAt s h ≡ pos 0
+  pub marks : (h : ℕ) → h < households → markAt b h ≡ false
+
+-- ---- one TLV
+
+-- what a TLV of this type and value pays
+unfoldable pub pays : ℕ → List ℕ → Option Payment
+pays kind v = cond (eqb kind 40) (readPayment v) none
+
+abbrev pub addSum : Option Payment → List ℤ → List ℤ
+addSum none s = s
+addSum (some p) s = set s (p .household) (sumAt s (p .household) +ℤ p .amount)
+
+abbrev pub addMark : Option Payment → List Bool → List Bool
+addMark none b = b
+addMark (some p) b = set b (p .household) true
+
+-- one payment more, or none
+pub record Added (o : Option Payment) (s : List ℤ) (b : List Bool) (s′ : List ℤ) (b′ : List Bool) : Type 0 where
+  pub sums : s′ ≡ addSum o s
+  pub marks : b′ ≡ addMark o b
+
+-- ---- nodes
+
+-- these nodes publish a readable payment of household h
+abbrev pub paidIn : List Statement → ℕ → Bool
+paidIn ss h = any (λ p. eqb (p .household) h) (readable (paymentsIn ss))
+
+-- these nodes' payments more
+pub record Summed (ss : List Statement) (s : List ℤ) (b : List Bool) (s′ : List ℤ) (b′ : List Bool) : Type 0 where
+  pub sums : (h : ℕ) → h < households → sumAt s′ h ≡ sumAt s h +ℤ totalOf h ss
+  pub marks : (h : ℕ) → h < households → markAt b′ h ≡ markAt b h || paidIn ss h
+
+-- these nodes' payments and no others
+pub record Totals (ss : List Statement) (s : List ℤ) (b : List Bool) : Type 0 where
+  pub sums : (h : ℕ) → h < households → sumAt s h ≡ totalOf h ss
+  pub marks : (h : ℕ) → h < households → markAt b h ≡ paidIn ss h
+
+-- ---- lines
+
+-- a line for each household up to n that m holds of, with its sum in v
+unfoldable pub linesTo : ℕ → (ℕ → ℤ) → (ℕ → Bool) → List ℕ
+linesTo n v m = joinAll (map (λ h. line (decimal h) (v h)) (keep m (upTo n)))
+
+abbrev pub lines : List ℤ → List Bool → List ℕ
+lines s b = linesTo mostHousehold (sumAt s) (markAt b)

@@ -1,0 +1,86 @@
+// The treasurer's report: a saved snapshot's totals as text.
+pub mod sums;
+pub mod text;
+
+use crate::sums::sum_up;
+use crate::text::put_household;
+use crate::text::put_line;
+use accounts::totals::Whose;
+use accounts::totals::tally;
+use base::memory::store;
+use reach::reach;
+use snapshot::load::load;
+use table::Table;
+ghost use Prim.Native.Nat.{_+_, _≤_};
+ghost use lib.ListN.{length};
+ghost use Rattle.base.specs.Lists.{keepBy};
+ghost use Rattle.model.specs.Figures.{tableBytes};
+ghost use Rattle.model.specs.Table.{statements};
+ghost use Rattle.table.specs.View.{view, Kept};
+ghost use Rattle.accounts.specs.Tallied.{AllGood};
+ghost use Rattle.report.specs.Report.{report, reportBytes, PrintedTo};
+ghost use Rattle.report.specs.Steps.{Put, Wide, households, lines};
+
+// A line for each household that paid, ascending.
+fn put_lines(sums: &[i64], paid: &[bool], room: &mut [u8], at: usize) -> usize
+    requires { ⌜ Wide (now sums) (now paid) × (at + length (lines (now sums) (now paid)) ≤ length (now room)) ⌝ }
+    ensures { λ r. ⌜ Put (lines (now (sums .entry)) (now (paid .entry))) (now (room .entry)) at (now (room .exit)) r ⌝ }
+{
+    let mut e = at;
+    let mut h: usize = 0;
+    while h < 9999 {
+        h += 1;
+        if paid[h] {
+            e = put_household(room, e, h, sums[h]);
+        }
+    }
+    e
+}
+
+// The report over the marked nodes.
+fn put_report(
+    t: Table,
+    mem: &[u8],
+    marks: [bool; 32],
+    sums: &mut [i64],
+    paid: &mut [bool],
+    room: &mut [u8],
+) -> usize
+    requires { ⌜ Kept t (now mem) × (AllGood (view t (now mem)) × (Wide (now sums) (now paid) × (reportBytes ≤ length (now room)))) ⌝ }
+    ensures { λ r. ⌜ Put (report (statements (keepBy marks (view t (now (mem .entry)))))) (now (room .entry)) 0 (now (room .exit)) r ⌝ }
+{
+    sum_up(t, mem, marks, sums, paid);
+    let all = tally(
+        t,
+        mem,
+        marks,
+        Whose {
+            all: true,
+            household: 0,
+        },
+    );
+    store(room, 0, b"household total\n");
+    let e = put_lines(sums, paid, room, 16);
+    put_line(room, e, b"all", all.value)
+}
+
+// What the program prints for these bytes, at the front of the room; its length.
+pub fn report(
+    bytes: &[u8],
+    mem: &mut [u8],
+    sums: &mut [i64],
+    paid: &mut [bool],
+    room: &mut [u8],
+) -> usize
+    requires { ⌜ (tableBytes ≤ length (now mem)) × ((households ≤ length (now sums)) × ((households ≤ length (now paid)) × (reportBytes ≤ length (now room)))) ⌝ }
+    ensures { λ r. ⌜ PrintedTo (now (bytes .entry)) (now (room .entry)) (now (room .exit)) r ⌝ }
+{
+    let found = load(bytes, mem, 0);
+    if !found.ok {
+        store(room, 0, b"refused\n");
+        return 8;
+    }
+    let reached = reach(found.table, mem, found.own, 0);
+    let marks = reached.marks;
+    put_report(found.table, mem, marks, sums, paid, room)
+}
