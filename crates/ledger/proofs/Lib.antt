@@ -8,3 +8,6 @@ pub mod Sums
 pub mod Listing
 pub mod Saves
 pub mod Shown
+pub mod Premises
+pub mod Chains
+pub mod Deliveries

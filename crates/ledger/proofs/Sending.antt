@@ -4,14 +4,14 @@ use mathlib.Core.Bool.{Bool, true, false}
 use mathlib.Core.List.{List, [], _∷_}
 use Prim.Native.Nat.{ℕ, _≤_}
 use native.Mathlib.Omega.{arith}
-use lib.ListN.{length, take, drop}
+use lib.ListN.{length, take}
 use borrow.Author.Tests.{ltb-false, not-false}
 use Rattle.base.specs.Bytes.{Bytes}
 use Rattle.base.specs.Lists.{All}
 use Rattle.wire.specs.Row.{isRow}
 use Rattle.model.specs.Figures.{tableBytes, mostBytes, lastReading}
 use Rattle.model.specs.Refusals.{Row, late, back, noSuchEndpoint, smallRoom, long, noRow}
-use Rattle.model.specs.Receive.{Call, Answer as ModelAnswer, handled, answered, refusalReceive, receive}
+use Rattle.model.specs.Receive.{Call, Answer as ModelAnswer, handled, refusalReceive, receive}
 use Rattle.model.specs.Tick.{Sent as ModelSent, ticked, refusalTick, tick}
 use Rattle.model.specs.Invariant.{Valid}
 use Rattle.model.proofs.Kept.{invariant-kept}

@@ -1,9 +1,7 @@
 // The numbers that a call may answer, the first of its order that applies (document 01, Numbers a call may answer).
 use wire::row::is_row;
 ghost use mathlib.Core.Path.{_≡_};
-ghost use mathlib.Core.List.{List, [], _∷_};
-ghost use Prim.Native.Nat.{ℕ};
-ghost use lib.ListN.{length};
+ghost use mathlib.Core.List.{[], _∷_};
 ghost use Rattle.model.specs.Figures.{mostBytes, snapshotBytes};
 ghost use Rattle.model.specs.State.{State as ModelState};
 ghost use Rattle.model.specs.Refusals.{firstOf, late, back, noSuchEndpoint, smallTable, smallRoom, long, noRow, noHousehold};

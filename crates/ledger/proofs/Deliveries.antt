@@ -1,0 +1,132 @@
+-- Demand 3 over the calls' promises: the model's theorem, carried over to states and memories that `receive` joins. Assumes nothing.
+use mathlib.Core.Path.{_≡_, refl, sym, ap, subst, _∙_}
+use mathlib.Core.Bool.{false}
+use mathlib.Core.List.{List, [], _∷_, append-nil}
+use Prim.Native.Nat.{ℕ, _≤_, _<_}
+use native.Mathlib.Omega.{arith}
+use lib.ListN.{length}
+use lib.Dec.{leb}
+use borrow.Author.Tests.{eqb-true, leb-true, leb-false}
+use Rattle.base.specs.Lists.{In}
+use Rattle.base.specs.Sorted.{Ascending}
+use Rattle.base.proofs.Tests.{by-test}
+use Rattle.base.proofs.Lists.{in-map, map-in}
+use Rattle.base.proofs.Sorted.{one-each}
+use Rattle.model.specs.Figures.{tableBytes, mostBytes}
+use Rattle.model.specs.Table.{Entry, Statement, idOf, statements}
+use Rattle.model.specs.Reach.{inReach}
+use Rattle.model.specs.Digest.{networkDigest}
+use Rattle.model.specs.State.{State as ModelState}
+use Rattle.model.specs.Receive.{Call, Answer as ModelAnswer, receive}
+use Rattle.model.specs.Delivery.{accepted, next, run, heard, Holds, SameHeard, Under, Premises, Alike}
+use Rattle.model.proofs.Delivery.{order-loses-nothing}
+use Rattle.model.proofs.KeptReceive.{receive-own}
+use Rattle.model.proofs.Refusals.{refusals-change-nothing, refusals-exact}
+use Rattle.table.specs.View.{view}
+use Rattle.table.proofs.Rows.{view-ascending}
+use Rattle.node.specs.View.{stateOf}
+use Rattle.node.specs.declared.State.{State}
+use Rattle.ledger.specs.Demands.{Delivery, Joined, callIn, callsOf, tableAfter, known, Delivered, DeliveryLosesNothing}
+use Rattle.ledger.proofs.Left.{not-small-room}
+
+-- ---- the model's state after the calls is that of the code's state and memory
+
+joined-run : (s : State) (m : List ℕ) (xs : List Delivery) → Joined s m xs → run (stateOf s m) (callsOf (length m) xs) .table ≡ tableAfter s m xs
+unfolding run stateOf
+joined-run s m [] j = refl
+joined-run s m (x ∷ xs) j =
+    ap (λ (v : ModelState). run v (callsOf (length m) xs) .table) (sym (ap (λ (a : ModelAnswer). a .state) (j .0 .is)))
+    ∙ ap (λ (n : ℕ). run (stateOf (x .answer .state) (x .memory)) (callsOf n xs) .table) (sym (j .0 .size))
+    ∙ joined-run (x .answer .state) (x .memory) xs (j .1)
+
+run-own : (v : ModelState) (cs : List Call) → run v cs .own ≡ v .own
+unfolding run
+run-own v [] = refl
+run-own v (c ∷ cs) = run-own (next v c) cs ∙ receive-own c v
+
+-- ---- a table memory below its figure: every call is refused, so that nothing changes and nothing is heard
+
+module _ (v : ModelState) (c : Call) (short : c .table < tableBytes) where
+  never : ¬ (receive c v .number ≡ 0)
+  never z = omega (arith, short, not-small-room (c .table) (c .room) mostBytes (refusals-exact .receives c v .none .0 z .1 .1 .1 .0) .0)
+
+  not-accepted : accepted v c ≡ false
+  not-accepted = by-test (accepted v c) (λ b. absurd (never (eqb-true (receive c v .number) 0 b))) (λ b. b)
+
+  not-moved : next v c ≡ v
+  not-moved = ap (λ (a : ModelAnswer). a .state) (refusals-change-nothing .receives c v never)
+
+module _ (n : ℕ) (short : n < tableBytes) where
+  short-run : (v : ModelState) (xs : List Delivery) → run v (callsOf n xs) ≡ v
+  unfolding run
+  short-run v [] = refl
+  short-run v (x ∷ xs) = ap (λ (u : ModelState). run u (callsOf n xs)) (not-moved v (callIn n x) short) ∙ short-run v xs
+
+  short-heard : (v : ModelState) (xs : List Delivery) → heard v (callsOf n xs) ≡ []
+  unfolding heard
+  short-heard v [] = refl
+  short-heard v (x ∷ xs) = rw (not-accepted v (callIn n x) short, not-moved v (callIn n x) short) (short-heard v xs)
+
+-- a table holds its own statements
+holds-own : (t : List Entry) → Ascending idOf t → Holds (λ (x : Statement). In x (statements t)) t
+holds-own t a =
+    record {
+      ascending = a;
+      from = λ e i. in-map (λ (e : Entry). e .says) e t i;
+      newest = λ e x i j same other.
+          let f = map-in (λ (e : Entry). e .says) x t j in
+          absurd (other (ap (λ (y : Statement). y .seq) (sym (f .2)) ∙ ap (λ (d : Entry). d .says .seq) (one-each idOf (f .0) e t a (f .1) i (ap (λ (y : Statement). y .node) (f .2) ∙ same))));
+      each = λ x j. let f = map-in (λ (e : Entry). e .says) x t j in (f .0, f .1, ap (λ (y : Statement). y .node) (f .2));
+    }
+
+-- ---- both halves
+
+module _ (s : State) (m : List ℕ) where
+  abbrev calls : List Delivery → List Call
+  calls xs = callsOf (length m) xs
+
+  premises : (xs : List Delivery) → Delivered s m xs → tableBytes ≤ length m → Premises (stateOf s m) (calls xs)
+  premises xs d room = record { valid = d .left .valid room; lone = d .lone; few = d .few; close = d .close; single = d .single }
+
+  after : (xs : List Delivery) → Delivered s m xs → run (stateOf s m) (calls xs) .table ≡ tableAfter s m xs
+  after xs d = joined-run s m xs (d .joined)
+
+  kept : (xs : List Delivery) → Delivered s m xs → Holds (λ (x : Statement). In x (known s m xs)) (tableAfter s m xs)
+  unfolding stateOf
+  kept xs d =
+      by-test (leb tableBytes (length m))
+      (λ y. subst (Holds (λ (x : Statement). In x (known s m xs))) (after xs d) (order-loses-nothing .kept (stateOf s m) (calls xs) (premises xs d (leb-true tableBytes (length m) y))))
+      (λ n. let short : length m < tableBytes = leb-false tableBytes (length m) n in
+      let t : view (s .table) m ≡ tableAfter s m xs = ap (λ (v : ModelState). v .table) (sym (short-run (length m) short (stateOf s m) xs)) ∙ after xs d in
+      rw (short-heard (length m) short (stateOf s m) xs, append-nil (statements (view (s .table) m)), sym t) (holds-own (view (s .table) m) (view-ascending (s .table) (d .left .rows) m)))
+
+  module _ (xs ys : List Delivery) (d : Delivered s m xs) (e : Delivered s m ys) (same : SameHeard (stateOf s m) (calls xs) (calls ys)) where
+    short-alike : length m < tableBytes → tableAfter s m xs ≡ tableAfter s m ys
+    short-alike short = sym (after xs d) ∙ ap (λ (v : ModelState). v .table) (short-run (length m) short (stateOf s m) xs ∙ sym (short-run (length m) short (stateOf s m) ys)) ∙ after ys e
+
+    model-alike : tableBytes ≤ length m → Alike (stateOf s m) (calls xs) (calls ys)
+    model-alike room = order-loses-nothing .alike (stateOf s m) (calls xs) (calls ys) (premises xs d room) (premises ys e room) same
+
+    tables : statements (tableAfter s m xs) ≡ statements (tableAfter s m ys)
+    tables =
+        by-test (leb tableBytes (length m)) (λ y. rw (after xs d, after ys e) at (model-alike (leb-true tableBytes (length m) y) .table))
+        (λ n. ap statements (short-alike (leb-false tableBytes (length m) n)))
+
+    alike : (now : ℕ) → Under now (tableAfter s m xs) → Under now (tableAfter s m ys)
+        → ((n : ℕ) → inReach (s .own) now (tableAfter s m xs) n ≡ inReach (s .own) now (tableAfter s m ys) n)
+        × (networkDigest (s .own) now (tableAfter s m xs) ≡ networkDigest (s .own) now (tableAfter s m ys))
+    unfolding stateOf
+    alike now u v =
+        by-test (leb tableBytes (length m))
+        (λ y. let a : Alike (stateOf s m) (calls xs) (calls ys) = model-alike (leb-true tableBytes (length m) y) in
+        let p : Under now (run (stateOf s m) (calls xs) .table) = subst (Under now) (sym (after xs d)) u in
+        let q : Under now (run (stateOf s m) (calls ys) .table) = subst (Under now) (sym (after ys e)) v in (
+          λ n. rw (run-own (stateOf s m) (calls xs), run-own (stateOf s m) (calls ys), after xs d, after ys e) at (a .marks now p q n),
+          rw (run-own (stateOf s m) (calls xs), run-own (stateOf s m) (calls ys), after xs d, after ys e) at (a .digest now p q),
+        ))
+        (λ n. let t : tableAfter s m xs ≡ tableAfter s m ys = short-alike (leb-false tableBytes (length m) n) in
+        (λ k. ap (λ (l : List Entry). inReach (s .own) now l k) t, ap (λ (l : List Entry). networkDigest (s .own) now l) t))
+
+pub delivery-loses-nothing : DeliveryLosesNothing
+delivery-loses-nothing =
+    record { kept = kept; alike = tables; marks = alike }

@@ -1,0 +1,131 @@
+-- The three demands, over the promises of the public calls. Assumes nothing.
+use mathlib.Core.Path.{_≡_}
+use mathlib.Core.Bool.{Bool}
+use mathlib.Core.List.{List, [], _∷_, _++_, map}
+use mathlib.Core.Logic.{_⊎_, _↔_}
+use Prim.Native.Nat.{ℕ, _≤_}
+use lib.ListN.{length, take}
+use Rattle.base.specs.Bytes.{big32}
+use Rattle.base.specs.Lists.{In, joinAll}
+use Rattle.sha256.specs.Sha256.{hash16}
+use Rattle.wire.specs.Row.{typeOf, tlvs}
+use Rattle.model.specs.Table.{Entry, Statement, idOf, statements}
+use Rattle.model.specs.Messages.{shortState, wholeState}
+use Rattle.model.specs.Begin.{Done as ModelDone}
+use Rattle.model.specs.Tick.{Sent as ModelSent}
+use Rattle.model.specs.Totals.{totalOf, sumOf, unreadable, paymentsIn}
+use Rattle.model.specs.Handle.{Work as ModelWork, allTlvs}
+use Rattle.model.specs.Receive.{Call, Answer as ModelAnswer, contextOf, startOf}
+use Rattle.model.specs.Delivery.{heldOrHeard, Lone, Close, distinct, Holds, SameHeard, Under}
+use Rattle.model.specs.Theorems.{Chained}
+use Rattle.model.specs.Reach.{inReach}
+use Rattle.model.specs.Digest.{networkDigest}
+use Rattle.table.specs.View.{view}
+use Rattle.node.specs.View.{stateOf}
+use Rattle.node.specs.declared.State.{State}
+use Rattle.exchange.specs.Received.{callOf}
+use Rattle.ledger.specs.declared.answers.Done.{Done}
+use Rattle.ledger.specs.declared.answers.Sent.{Sent}
+use Rattle.ledger.specs.declared.answers.Answer.{Answer}
+use Rattle.ledger.specs.declared.answers.Summed.{Summed}
+use Rattle.ledger.specs.declared.answers.Marked.{Marked}
+use Rattle.ledger.specs.Promises.{AsLeft, Blank, Changes, Sends, Answers, Receives, Totals, SumsUp, Marks}
+
+-- ---- demand 1: "The caller hands back state and table as the last call left them and need check nothing"
+
+-- The one premise holds of the first state with whatever table memory, and every call that changes state leaves it; the others leave state and memory
+-- alone. A refusal leaves state and lent memory identical, whatever the model's call d is.
+pub record OnePremise : Type 0 where
+  pub first : (r : State) → Blank r → (m : List ℕ) → AsLeft r m
+  pub changes : (d : ModelDone) (s : State) (m : List ℕ) (r : Done) (m′ : List ℕ) → Changes d s m r m′ → AsLeft (r .state) m′
+  pub sends : (d : ModelSent) (s : State) (m q : List ℕ) (r : Sent) (m′ q′ : List ℕ) → Sends d s m q r m′ q′ → AsLeft (r .state) m′
+  pub answers : (d : ModelAnswer) (s : State) (m q : List ℕ) (r : Answer) (m′ q′ : List ℕ) → Answers d s m q r m′ q′ → AsLeft (r .state) m′
+  pub unchanged : (d : ModelDone) (s : State) (m : List ℕ) (r : Done) (m′ : List ℕ) → Changes d s m r m′ → ¬ (d .number ≡ 0) → (r .state ≡ s) × (m′ ≡ m)
+  pub unsent : (d : ModelSent) (s : State) (m q : List ℕ) (r : Sent) (m′ q′ : List ℕ) → Sends d s m q r m′ q′ → ¬ (d .number ≡ 0)
+      → (r .state ≡ s) × ((m′ ≡ m) × (q′ ≡ q))
+  pub unanswered : (d : ModelAnswer) (s : State) (m q : List ℕ) (r : Answer) (m′ q′ : List ℕ) → Answers d s m q r m′ q′ → ¬ (d .number ≡ 0)
+      → (r .state ≡ s) × ((m′ ≡ m) × (q′ ≡ q))
+
+-- ---- demand 2: "Only such boxes enter the network digest, a total or a Node State we send"
+
+-- exactly the entries of the table to which a chain leads, ascending
+pub record Reachable (own clock : ℕ) (t es : List Entry) : Type 0 where
+  pub exactly : (e : Entry) → In e es ↔ (In e t × Chained own clock t (idOf e))
+
+-- u is a Node State of a node that a chain reached at the moment when one of the datagram's TLVs was handled
+abbrev pub SentOf : State → List ℕ → Call → List ℕ → Type 0
+SentOf s m c u =
+    (before : List (List ℕ)) × (t : List ℕ) × (later : List (List ℕ)) × (tlvs (c .datagram) ≡ before ++ (t ∷ later)) × (e : Entry) ×
+    (let w : ModelWork = allTlvs (contextOf (stateOf s m) c) before (startOf (stateOf s m)) in
+    In e (w .state .table) × Chained (w .state .own) (c .now) (w .state .table) (idOf e)) × ((u ≡ shortState (c .now) e) ⊎ (u ≡ wholeState (c .now) e))
+
+pub record OnlyReachable : Type 0 where
+  pub marked : (clock : ℕ) (s : State) (m : List ℕ) (r : Marked) → Marks clock s m r → r .number ≡ 0
+      → (es : List Entry) × Reachable (s .own) clock (view (s .table) m) es × (take (r .count) (r .nodes) ≡ map idOf es)
+      × (r .digest ≡ hash16 (joinAll (map (λ (e : Entry). big32 (e .says .seq) ++ hash16 (e .says .nodeData)) es)))
+  pub summed : (clock : ℕ) (s : State) (m : List ℕ) (r : Summed) → SumsUp clock s m r → r .number ≡ 0
+      → (es : List Entry) × Reachable (s .own) clock (view (s .table) m) es × (r .value ≡ sumOf (statements es)) × (r .unread ≡ unreadable (paymentsIn (statements es)))
+  pub totalled : (clock household : ℕ) (s : State) (m : List ℕ) (r : Summed) → Totals clock household s m r → r .number ≡ 0
+      → (es : List Entry) × Reachable (s .own) clock (view (s .table) m) es × (r .value ≡ totalOf household (statements es))
+      × (r .unread ≡ unreadable (paymentsIn (statements es)))
+  pub sent : (datagram : List ℕ) (clock endpoint : ℕ) (unicast : Bool) (randoms : List ℕ) (s : State) (m q : List ℕ) (r : Answer) (m′ q′ : List ℕ)
+      → Receives datagram clock endpoint unicast randoms s m q r m′ q′ → r .number ≡ 0
+      → (u : List ℕ) → In u (tlvs (take (r .length) q′)) → typeOf u ≡ 5 → SentOf s m (callOf datagram clock endpoint unicast randoms (length m) (length q)) u
+
+-- ---- demand 3: "The order of delivery can't lose a payment"
+
+-- one datagram call as it was made: what was handed in besides state and table memory, and what came back
+pub record Delivery : Type 0 where
+  pub datagram : List ℕ
+  pub clock : ℕ
+  pub endpoint : ℕ
+  pub unicast : Bool
+  pub randoms : List ℕ
+  pub room : List ℕ
+  pub answer : Answer
+  pub memory : List ℕ
+  pub written : List ℕ
+
+-- "Each call gets what the last one left": the promise of `receive` joins each state and memory to the next
+abbrev pub Joined : State → List ℕ → List Delivery → Type 0
+Joined s m [] = Unit {0}
+Joined s m (x ∷ xs) =
+    Receives (x .datagram) (x .clock) (x .endpoint) (x .unicast) (x .randoms) s m (x .room) (x .answer) (x .memory) (x .written)
+    × Joined (x .answer .state) (x .memory) xs
+
+-- the model's calls, where the table memory has n bytes
+abbrev pub callIn : ℕ → Delivery → Call
+callIn n x = callOf (x .datagram) (x .clock) (x .endpoint) (x .unicast) (x .randoms) n (length (x .room))
+
+abbrev pub callsOf : ℕ → List Delivery → List Call
+callsOf n xs = map (callIn n) xs
+
+-- the table after the last of them, as the model sees it
+abbrev pub tableAfter : State → List ℕ → List Delivery → List Entry
+tableAfter s m [] = view (s .table) m
+tableAfter s m (x ∷ xs) = tableAfter (x .answer .state) (x .memory) xs
+
+-- statements held at the start or heard in an accepted call
+abbrev pub known : State → List ℕ → List Delivery → List Statement
+known s m xs = heldOrHeard (stateOf s m) (callsOf (length m) xs)
+
+-- any start that keeps the invariant, calls that join, and the demand's own words
+pub record Delivered (s : State) (m : List ℕ) (xs : List Delivery) : Type 0 where
+  pub left : AsLeft s m
+  pub joined : Joined s m xs
+  pub lone : Lone (stateOf s m) (callsOf (length m) xs)
+  pub few : length (distinct (map (λ (x : Statement). x .node) (known s m xs))) ≤ 32
+  pub close : (n : ℕ) → Close (known s m xs) n
+  pub single : (x y : Statement) → In x (known s m xs) → In y (known s m xs) → x .node ≡ y .node → x .seq ≡ y .seq → x .nodeData ≡ y .nodeData
+
+pub record DeliveryLosesNothing : Type 0 where
+  -- "the table afterwards holds exactly the boxes held or heard, each with its newest statement"
+  pub kept : (s : State) (m : List ℕ) (xs : List Delivery) → Delivered s m xs → Holds (λ (x : Statement). In x (known s m xs)) (tableAfter s m xs)
+  -- "two such lists .. leave the same table apart from ages", and marks and network digest with it
+  pub alike : (s : State) (m : List ℕ) (xs ys : List Delivery) → Delivered s m xs → Delivered s m ys
+      → SameHeard (stateOf s m) (callsOf (length m) xs) (callsOf (length m) ys) → statements (tableAfter s m xs) ≡ statements (tableAfter s m ys)
+  pub marks : (s : State) (m : List ℕ) (xs ys : List Delivery) → Delivered s m xs → Delivered s m ys
+      → SameHeard (stateOf s m) (callsOf (length m) xs) (callsOf (length m) ys)
+      → (now : ℕ) → Under now (tableAfter s m xs) → Under now (tableAfter s m ys)
+      → ((n : ℕ) → inReach (s .own) now (tableAfter s m xs) n ≡ inReach (s .own) now (tableAfter s m ys) n)
+      × (networkDigest (s .own) now (tableAfter s m xs) ≡ networkDigest (s .own) now (tableAfter s m ys))
