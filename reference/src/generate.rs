@@ -9,9 +9,10 @@
 mod craft;
 mod mesh;
 
+use crate::calls::Rooms;
 use crate::node::{Randoms, AGE_LIMIT, CLOCK_MAX, MAX_NODES, REPUBLISH_AGE};
 use crate::random::Random;
-use crate::script::{from_hex, hex, Rooms, Session, ROOMS_MAX};
+use crate::script::{from_hex, hex, Session, ROOMS_MAX};
 use crate::wire;
 
 /// A script with this many calls. Lines `rooms`, `state` and bad lines come on top.

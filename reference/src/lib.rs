@@ -3,6 +3,7 @@
 
 #![forbid(unsafe_code)]
 
+pub mod calls;
 pub mod generate;
 pub mod node;
 pub mod random;

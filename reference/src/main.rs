@@ -2,7 +2,7 @@
 
 use reference::script::Session;
 use reference::{generate, totals};
-use std::io::{self, BufRead, BufWriter, Read, Write};
+use std::io::{self, BufWriter, Read, Write};
 use std::process::ExitCode;
 
 fn main() -> ExitCode {
@@ -33,17 +33,10 @@ fn usage() -> ExitCode {
     ExitCode::from(2)
 }
 
-/// Runs the script on standard input line by line.
+/// Runs the script on standard input.
 fn run() -> io::Result<()> {
-    let mut session = Session::default();
-    let mut out = BufWriter::new(io::stdout().lock());
-    for line in io::stdin().lock().split(b'\n') {
-        let line = line?;
-        // A line that isn't text is not of the form either.
-        let text = std::str::from_utf8(&line).unwrap_or("");
-        out.write_all(session.run_line(text).as_bytes())?;
-    }
-    out.flush()
+    let out = BufWriter::new(io::stdout().lock());
+    Session::default().run_lines(io::stdin().lock(), out)
 }
 
 fn print_totals() -> io::Result<()> {

@@ -202,7 +202,7 @@ pub struct Node {
 /// Answer of `receive`.
 #[derive(Clone, Debug, Default, PartialEq, Eq)]
 pub struct Received {
-    pub refusal: u8,
+    pub refusal: u32,
     pub bytes: Vec<u8>,
     /// Reply TLVs left out because they did not fit.
     pub omitted: usize,
@@ -213,14 +213,14 @@ pub struct Received {
 /// Answer of a call that writes bytes: `tick` and `save`.
 #[derive(Clone, Debug, Default, PartialEq, Eq)]
 pub struct Written {
-    pub refusal: u8,
+    pub refusal: u32,
     pub bytes: Vec<u8>,
 }
 
 /// Answer of `total` and `sum`.
 #[derive(Clone, Copy, Debug, Default, PartialEq, Eq)]
 pub struct Summed {
-    pub refusal: u8,
+    pub refusal: u32,
     pub value: i64,
     /// Unreadable payments of reachable nodes.
     pub unreadable: usize,
@@ -229,14 +229,14 @@ pub struct Summed {
 /// Answer of `marks`.
 #[derive(Clone, Debug, Default, PartialEq, Eq)]
 pub struct Marks {
-    pub refusal: u8,
+    pub refusal: u32,
     pub digest: Digest,
     /// Identifiers of the reachable nodes, ascending.
     pub nodes: Vec<u32>,
 }
 
 /// The first number whose condition holds, or 0.
-pub fn first_refusal(checks: &[(u8, bool)]) -> u8 {
+pub fn first_refusal(checks: &[(u32, bool)]) -> u32 {
     checks
         .iter()
         .find(|check| check.1)
@@ -448,7 +448,7 @@ impl Node {
     }
 
     /// Begins with our own node alone. Refusals 1 4.
-    pub fn begin(&mut self, table_len: usize, own: u32, clock: u64, randoms: &Randoms) -> u8 {
+    pub fn begin(&mut self, table_len: usize, own: u32, clock: u64, randoms: &Randoms) -> u32 {
         let refusal = first_refusal(&[(1, clock > CLOCK_MAX), (4, table_len < TABLE_ROOM)]);
         if refusal == 0 {
             let table = vec![Entry::new(own, 0, 0, clock, Vec::new())];
@@ -555,7 +555,7 @@ impl Node {
         receipt: u32,
         amount: i32,
         randoms: &Randoms,
-    ) -> u8 {
+    ) -> u32 {
         let tlv = wire::payment_tlv(&Payment {
             household,
             receipt,
@@ -579,7 +579,7 @@ impl Node {
     }
 
     /// Drops ("forgets") every node that is not reachable. Refusals 1 2 4.
-    pub fn purge(&mut self, table_len: usize, clock: u64, randoms: &Randoms) -> u8 {
+    pub fn purge(&mut self, table_len: usize, clock: u64, randoms: &Randoms) -> u32 {
         let refusal = self.clock_and_table_refusal(table_len, clock);
         if refusal == 0 {
             let levels = levels(&self.table, self.own, clock);
@@ -657,7 +657,7 @@ impl Node {
     }
 
     /// The number of `show` with the same arguments. Refusals 4 10.
-    pub fn show_refusal(&self, table_len: usize, node: u32) -> u8 {
+    pub fn show_refusal(&self, table_len: usize, node: u32) -> u32 {
         first_refusal(&[
             (4, table_len < TABLE_ROOM),
             (10, self.entry(node).is_none()),
@@ -665,7 +665,7 @@ impl Node {
     }
 
     /// The checks shared by calls with a clock and the table memory only.
-    pub(crate) fn clock_and_table_refusal(&self, table_len: usize, clock: u64) -> u8 {
+    pub(crate) fn clock_and_table_refusal(&self, table_len: usize, clock: u64) -> u32 {
         first_refusal(&[
             (1, clock > CLOCK_MAX),
             (2, clock < self.last),

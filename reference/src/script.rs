@@ -3,18 +3,11 @@
 //! Words are separated by exactly one space, numbers are decimal,
 //! bytes are lower-case hexadecimal, `-` for no bytes.
 
-use crate::node::{Node, Randoms, REPLY_ROOM, TABLE_ROOM};
-use crate::snapshot::SNAPSHOT_ROOM;
-use std::fmt::Write;
+use crate::calls::{Calls, Rooms, View};
+use crate::node::{Marks, Node, Randoms, Summed, Written};
+use crate::wire::Payment;
+use std::io::{self, BufRead, Write};
 use std::str::FromStr;
-
-/// Lengths of the lent buffers.
-#[derive(Clone, Copy, Debug, PartialEq, Eq)]
-pub struct Rooms {
-    pub table: usize,
-    pub reply: usize,
-    pub snapshot: usize,
-}
 
 /// What a script may set at most.
 pub const ROOMS_MAX: Rooms = Rooms {
@@ -22,16 +15,6 @@ pub const ROOMS_MAX: Rooms = Rooms {
     reply: 5_000,
     snapshot: 40_000,
 };
-
-impl Default for Rooms {
-    fn default() -> Rooms {
-        Rooms {
-            table: TABLE_ROOM,
-            reply: REPLY_ROOM,
-            snapshot: SNAPSHOT_ROOM,
-        }
-    }
-}
 
 /// A line of a script.
 #[derive(Clone, Debug, PartialEq, Eq)]
@@ -62,9 +45,7 @@ pub enum Line {
     },
     Pay {
         clock: u64,
-        household: u32,
-        receipt: u32,
-        amount: i32,
+        payment: Payment,
         randoms: Randoms,
     },
     Purge {
@@ -123,9 +104,11 @@ pub fn parse(line: &str) -> Option<Line> {
         }),
         ["pay", clock, household, receipt, amount, a, b, c, d] => Some(Line::Pay {
             clock: number(clock)?,
-            household: number(household)?,
-            receipt: number(receipt)?,
-            amount: signed(amount)?,
+            payment: Payment {
+                household: number(household)?,
+                receipt: number(receipt)?,
+                amount: signed(amount)?,
+            },
             randoms: parse_randoms([a, b, c, d])?,
         }),
         ["purge", clock, a, b, c, d] => Some(Line::Purge {
@@ -233,27 +216,32 @@ pub fn hex(bytes: &[u8]) -> String {
 
 /// A run of a script: the node, the lent lengths, the last accepted save.
 #[derive(Clone, Debug)]
-pub struct Session {
-    pub node: Node,
+pub struct Session<N = Node> {
+    pub node: N,
     pub rooms: Rooms,
     pub saved: Vec<u8>,
 }
 
-impl Default for Session {
-    fn default() -> Session {
+impl Default for Session<Node> {
+    fn default() -> Session<Node> {
+        Session::new(Node::blank())
+    }
+}
+
+impl<N: Calls> Session<N> {
+    /// A run that starts with this node, whose state is that of `blank`.
+    pub fn new(node: N) -> Session<N> {
         Session {
-            node: Node::blank(),
+            node,
             rooms: Rooms::default(),
             saved: Vec::new(),
         }
     }
-}
 
-impl Session {
     /// Runs one line and gives what it prints, each line of it ended.
     pub fn run_line(&mut self, line: &str) -> String {
         match parse(line) {
-            Some(line) => self.run(line),
+            Some(line) => self.run(&line),
             None => "bad line\n".to_string(),
         }
     }
@@ -266,31 +254,38 @@ impl Session {
             .collect()
     }
 
-    fn run(&mut self, line: Line) -> String {
-        let rooms = self.rooms;
+    /// Runs the lines of the input one by one.
+    pub fn run_lines(&mut self, input: impl BufRead, mut out: impl Write) -> io::Result<()> {
+        for line in input.split(b'\n') {
+            let line = line?;
+            // A line that isn't text is not of the form either.
+            let text = std::str::from_utf8(&line).unwrap_or("");
+            out.write_all(self.run_line(text).as_bytes())?;
+        }
+        out.flush()
+    }
+
+    /// Runs a line that was read and gives what it prints.
+    pub fn run(&mut self, line: &Line) -> String {
+        let rooms = &self.rooms;
         let node = &mut self.node;
         match line {
             Line::Rooms(rooms) => {
-                self.rooms = rooms;
+                self.rooms = *rooms;
                 String::new()
             }
             Line::Begin {
                 own,
                 clock,
                 randoms,
-            } => {
-                format!("begin {}\n", node.begin(rooms.table, own, clock, &randoms))
-            }
+            } => format!("begin {}\n", node.begin(rooms, *own, *clock, randoms)),
             Line::Resume {
                 clock,
                 randoms,
                 bytes,
             } => {
                 let bytes = bytes.as_ref().unwrap_or(&self.saved);
-                format!(
-                    "resume {}\n",
-                    node.resume(rooms.table, bytes, clock, &randoms)
-                )
+                format!("resume {}\n", node.resume(rooms, bytes, *clock, randoms))
             }
             Line::Receive {
                 clock,
@@ -299,15 +294,7 @@ impl Session {
                 randoms,
                 datagram,
             } => {
-                let answer = node.receive(
-                    rooms.table,
-                    rooms.reply,
-                    &datagram,
-                    clock,
-                    endpoint,
-                    multicast,
-                    &randoms,
-                );
+                let answer = node.receive(rooms, datagram, *clock, *endpoint, *multicast, randoms);
                 format!(
                     "receive {} {} {} {} {}\n",
                     answer.refusal,
@@ -321,113 +308,92 @@ impl Session {
                 clock,
                 endpoint,
                 randoms,
-            } => {
-                let answer = node.tick(rooms.table, rooms.reply, clock, endpoint, &randoms);
-                format!(
-                    "tick {} {} {}\n",
-                    answer.refusal,
-                    answer.bytes.len(),
-                    hex(&answer.bytes)
-                )
-            }
+            } => written_text("tick", &node.tick(rooms, *clock, *endpoint, randoms)),
             Line::Pay {
                 clock,
-                household,
-                receipt,
-                amount,
+                payment,
                 randoms,
-            } => {
-                let refusal = node.pay(rooms.table, clock, household, receipt, amount, &randoms);
-                format!("pay {refusal}\n")
-            }
+            } => format!("pay {}\n", node.pay(rooms, *clock, payment, randoms)),
             Line::Purge { clock, randoms } => {
-                format!("purge {}\n", node.purge(rooms.table, clock, &randoms))
+                format!("purge {}\n", node.purge(rooms, *clock, randoms))
             }
             Line::Total { clock, household } => {
-                let answer = node.total(rooms.table, clock, household);
-                format!(
-                    "total {} {} {}\n",
-                    answer.refusal, answer.value, answer.unreadable
-                )
+                summed_text("total", &node.total(rooms, *clock, *household))
             }
-            Line::Sum { clock } => {
-                let answer = node.sum(rooms.table, clock);
-                format!(
-                    "sum {} {} {}\n",
-                    answer.refusal, answer.value, answer.unreadable
-                )
-            }
-            Line::Marks { clock } => marks_text(node, rooms.table, clock),
+            Line::Sum { clock } => summed_text("sum", &node.sum(rooms, *clock)),
+            Line::Marks { clock } => marks_text(&node.marks(rooms, *clock)),
             Line::Save { clock } => {
-                let answer = node.save(rooms.table, rooms.snapshot, clock);
-                let text = format!(
-                    "save {} {} {}\n",
-                    answer.refusal,
-                    answer.bytes.len(),
-                    hex(&answer.bytes)
-                );
+                let answer = node.save(rooms, *clock);
+                let text = written_text("save", &answer);
                 if answer.refusal == 0 {
                     self.saved = answer.bytes;
                 }
                 text
             }
-            Line::Show { node: shown } => {
-                let refusal = node.show_refusal(rooms.table, shown);
-                let data = node.show(rooms.table, shown);
-                format!("show {} {} {}\n", refusal, data.len(), hex(data))
-            }
-            Line::State => state_text(node),
+            Line::Show { node: shown } => written_text("show", &node.show(rooms, *shown)),
+            Line::State => state_text(&node.view()),
         }
     }
 }
 
-fn marks_text(node: &Node, table_len: usize, clock: u64) -> String {
-    let answer = node.marks(table_len, clock);
+fn written_text(call: &str, answer: &Written) -> String {
+    let bytes = &answer.bytes;
+    format!("{call} {} {} {}\n", answer.refusal, bytes.len(), hex(bytes))
+}
+
+fn summed_text(call: &str, answer: &Summed) -> String {
+    format!(
+        "{call} {} {} {}\n",
+        answer.refusal, answer.value, answer.unreadable
+    )
+}
+
+fn marks_text(answer: &Marks) -> String {
     if answer.refusal != 0 {
         return format!("marks {} 0 -\n", answer.refusal);
     }
     let mut text = format!("marks 0 {} {}", answer.nodes.len(), hex(&answer.digest));
-    for node in answer.nodes {
-        write!(text, " {node}").expect("writing to a string");
+    for node in &answer.nodes {
+        text += &format!(" {node}");
     }
     text.push('\n');
     text
 }
 
 /// The whole state: the node, its table, its peers, its endpoints.
-pub fn state_text(node: &Node) -> String {
+pub fn state_text(view: &View) -> String {
     let mut text = format!(
         "state own={} last={} digest={}\n",
-        node.own,
-        node.last,
-        hex(&node.digest)
+        view.own,
+        view.last,
+        hex(&view.digest)
     );
-    for entry in &node.table {
+    for held in &view.nodes {
         text += &format!(
             "node id={} seq={} age={} since={} data={}\n",
-            entry.node,
-            entry.seq,
-            entry.age,
-            entry.since,
-            hex(entry.data())
+            held.node,
+            held.seq,
+            held.age,
+            held.since,
+            hex(held.data)
         );
     }
-    for peer in &node.peers {
+    for peer in &view.peers {
         text += &format!(
             "peer node={} theirs={} ours={} contact={}\n",
             peer.node, peer.theirs, peer.ours, peer.contact
         );
     }
-    for (index, trickle) in node.trickle.iter().enumerate() {
+    for (index, endpoint) in view.endpoints.iter().enumerate() {
         text += &format!(
             "endpoint {} start={} point={} interval={} count={} spent={} next={}\n",
             index + 1,
-            trickle.start,
-            trickle.point,
-            trickle.interval,
-            trickle.count,
-            u8::from(trickle.spent),
-            node.next_request[index]
+            endpoint.start,
+            endpoint.point,
+            endpoint.interval,
+            endpoint.count,
+            u8::from(endpoint.spent),
+            endpoint.next_request
         );
     }
     text

@@ -88,7 +88,7 @@ impl Node {
 
     /// Starts from a snapshot. Our own peers are unknown now, so every Peer TLV
     /// of ours goes, and we republish. Refusals 1 4 11.
-    pub fn resume(&mut self, table_len: usize, bytes: &[u8], clock: u64, randoms: &Randoms) -> u8 {
+    pub fn resume(&mut self, table_len: usize, bytes: &[u8], clock: u64, randoms: &Randoms) -> u32 {
         let snapshot = load(bytes, clock);
         let refusal = first_refusal(&[
             (1, clock > CLOCK_MAX),

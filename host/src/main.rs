@@ -1,0 +1,65 @@
+//! `host sessions`, `host compare SEED COUNT`, `host bench`: the archive and the reference, compared
+//! and measured.
+
+#![deny(unsafe_code)]
+
+mod archive;
+mod bench;
+mod compare;
+#[allow(unsafe_code)]
+mod ffi;
+
+use archive::Archive;
+use reference::script::Session;
+use std::io::{self, BufWriter};
+use std::process::ExitCode;
+use std::time::Instant;
+
+fn main() -> ExitCode {
+    let words: Vec<String> = std::env::args().skip(1).collect();
+    let words: Vec<&str> = words.iter().map(String::as_str).collect();
+    let result = match words.as_slice() {
+        ["sessions"] => run_sessions(),
+        ["compare", seed, count] => match (seed.parse(), count.parse()) {
+            (Ok(seed), Ok(count)) => run_compare(seed, count),
+            _ => return usage(),
+        },
+        ["bench"] => bench::run(),
+        _ => return usage(),
+    };
+    match result {
+        Ok(()) => ExitCode::SUCCESS,
+        Err(error) => {
+            eprintln!("host: {error}");
+            ExitCode::FAILURE
+        }
+    }
+}
+
+fn usage() -> ExitCode {
+    eprintln!("usage: host sessions < script > output");
+    eprintln!("       host compare SEED COUNT");
+    eprintln!("       host bench");
+    ExitCode::from(2)
+}
+
+/// Runs the script on standard input on the archive.
+fn run_sessions() -> Result<(), String> {
+    let mut session = Session::new(Archive::blank());
+    let out = BufWriter::new(io::stdout().lock());
+    session
+        .run_lines(io::stdin().lock(), out)
+        .map_err(|error| error.to_string())?;
+    match session.node.fault() {
+        Some(fault) => Err(fault.to_string()),
+        None => Ok(()),
+    }
+}
+
+fn run_compare(seed: u64, count: usize) -> Result<(), String> {
+    let start = Instant::now();
+    compare::compare(seed, count)?;
+    let seconds = start.elapsed().as_secs_f64();
+    println!("{count} calls compared in {seconds:.1} s, none differs");
+    Ok(())
+}
