@@ -1,17 +1,17 @@
 -- Found and inserted, by place: what code over arrays shows. Assumes nothing.
-use mathlib.Core.Path.{_≡_, refl, sym, ap, _∙_, subst}
-use mathlib.Core.Bool.{Bool, true, false, cond}
+use mathlib.Core.Path.{_≡_, refl, sym, ap, _∙_}
+use mathlib.Core.Bool.{cond}
 use mathlib.Core.List.{List, [], _∷_, _++_, map}
-use mathlib.Core.Option.{Option, none, some}
+use mathlib.Core.Option.{none, some}
 use Prim.Native.Nat.{ℕ, zero, suc, _+_, _-_, _≤_, _<_, zero-le, suc-le-suc}
 use native.Mathlib.Nat.{not-suc-le-zero, le-of-suc-le-suc}
 use native.Mathlib.Omega.{arith}
 use lib.ListN.{length, getD, take, drop, set, length-take, length-drop, length-append, take-append-drop, drop-of-length-le}
-use lib.Seq.{getD-take, getD-drop, getD-append-add, getD-at, drop-cons, set-at, take-suc, append-snoc, take-at, length-take-le}
+use lib.Seq.{getD-drop, getD-append-add, getD-at, drop-cons, set-at, take-suc, append-snoc, take-at, length-take-le}
 use lib.Dec.{eqb}
 use native.Mathlib.Numerals.{add-one}
 use borrow.Author.Tests.{eqb-true, eqb-false}
-use mathlib.Core.Logic.{_⊎_, inl, inr, ⊎-elim}
+use mathlib.Core.Logic.{inl, inr, ⊎-elim}
 use Rattle.base.specs.Lists.{In, All}
 use Rattle.base.proofs.Tests.{by-test}
 use Rattle.base.specs.Sorted.{find, insert, Above, Ascending}

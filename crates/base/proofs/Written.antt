@@ -1,13 +1,13 @@
 -- Written memory: what stands there, what stays. Assumes nothing.
 use Prim.Native.Nat.{ℕ, zero, suc, _+_, _-_, _*_, _≤_, _<_}
 use mathlib.Core.Path.{_≡_, refl, sym, ap, _∙_}
-use mathlib.Core.List.{List, [], _∷_, _++_, append-assoc, append-nil}
+use mathlib.Core.List.{List, [], _∷_, _++_, append-assoc}
 use native.Mathlib.Nat.{suc-mul, mul-le-mul-right}
 use native.Mathlib.Omega.{arith}
 use native.Mathlib.Numerals.{add-one}
 use mathlib.Core.Logic.{_⊎_, inl, inr}
 use lib.ListN.{length, take, drop, set, getD, length-take, length-drop, length-append, take-append-drop, drop-of-length-le, List·getD-append}
-use lib.Seq.{take-take, take-all, take-at, drop-at, take-append-le, drop-append-le, drop-append-add, getD-append-add, getD-drop, getD-take, drop-drop, take-add, take-nil, drop-nil, length-take-le, take-suc, drop-cons, append-snoc, set-at, set-split, take-suc-set, drop-set-lt}
+use lib.Seq.{take-take, take-all, take-at, drop-at, take-append-le, drop-append-add, getD-drop, getD-take, drop-drop, take-add, length-take-le, take-suc, drop-cons, set-at, set-split, take-suc-set, drop-set-lt}
 use borrow.Rule.Slice.PartMut.{putMid}
 use Rattle.base.proofs.Tests.{by-order}
 use Rattle.base.specs.Bytes.{noughts}

@@ -5,7 +5,7 @@ use mathlib.Core.List.{List}
 use Prim.Native.Nat.{ℕ, _≤_}
 use lib.ListN.{length, take, drop}
 use Rattle.model.specs.Figures.{mostBytes, tableBytes}
-use Rattle.model.specs.Receive.{Call, Answer, answered, handled}
+use Rattle.model.specs.Receive.{Call, answered, handled}
 use Rattle.node.specs.declared.State.{State}
 use Rattle.node.specs.View.{stateOf, Rep}
 use Rattle.exchange.specs.declared.datagram.Outcome.{Outcome}

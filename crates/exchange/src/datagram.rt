@@ -14,7 +14,6 @@ ghost use mathlib.Core.Path.{_≡_};
 ghost use mathlib.Core.Bool.{true};
 ghost use Prim.Native.Nat.{_≤_};
 ghost use lib.ListN.{length};
-ghost use Rattle.base.specs.Bytes.{Bytes};
 ghost use Rattle.base.specs.Lists.{any};
 ghost use Rattle.wire.specs.Row.{isRow, tlvs};
 ghost use Rattle.wire.specs.Answers.{Tells};

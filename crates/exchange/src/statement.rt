@@ -15,7 +15,6 @@ use table::renumber;
 use table::replace;
 use table::row_at;
 ghost use mathlib.Core.Path.{_≡_};
-ghost use mathlib.Core.Bool.{true};
 ghost use Prim.Native.Nat.{_≤_, _<_};
 ghost use lib.ListN.{length, take, drop};
 ghost use Rattle.model.specs.Decide.{Decision as ModelDecision, receivedOf};

@@ -1,39 +1,35 @@
 -- Beginning, resuming, paying and purging keep the invariant. Assumes nothing.
 use mathlib.Core.Path.{_≡_, refl, sym, ap, _∙_, subst}
-use mathlib.Core.Bool.{Bool, true, false, _&&_}
+use mathlib.Core.Bool.{Bool, true, false}
 use mathlib.Core.List.{List, [], _∷_, _++_}
-use mathlib.Core.Option.{Option, none, some}
+use mathlib.Core.Option.{Option, some}
 use mathlib.Core.Logic.{inl}
-use Prim.Native.Nat.{ℕ, zero, suc, _+_, _≤_, _<_}
+use Prim.Native.Nat.{ℕ, _+_, _≤_, _<_}
 use native.Mathlib.Omega.{arith}
-use lib.ListN.{length, take, drop, length-map}
-use lib.Dec.{eqb, ltb, leb}
+use lib.ListN.{length, length-map}
+use lib.Dec.{eqb}
 use borrow.Author.Tests.{eq-eqb, ltb-false}
 use Rattle.base.specs.Lists.{joinAll, orElse, isSome, In, All}
-use Rattle.base.specs.Sorted.{Ascending}
-use Rattle.base.proofs.Tests.{and-right}
-use Rattle.base.proofs.Lists.{in-left, in-keep, any-in, in-map, all-in, all-more, all-keep, keep-few}
-use Rattle.base.proofs.Sorted.{find-yes, find-some, keep-ascending, above-all, find-keep}
+use Rattle.base.proofs.Lists.{in-left, in-keep, any-in, in-map, all-in, all-keep, keep-few}
+use Rattle.base.proofs.Sorted.{find-yes, find-some, keep-ascending, find-keep}
 use Rattle.wire.specs.Order.{ascending, good, among}
 use Rattle.wire.specs.Row.{tlvs}
-use Rattle.wire.specs.Groups.{readGroups}
 use Rattle.wire.specs.Payment.{Payment, paymentTlv}
 use Rattle.wire.proofs.Good.{good-made}
-use Rattle.model.specs.Figures.{mostNodes, dataLimit, mostAge, lastReading, leastInterval, wide}
+use Rattle.model.specs.Figures.{dataLimit, lastReading, leastInterval}
 use Rattle.model.specs.Sequence.{circle, advance}
 use Rattle.model.specs.Table.{Entry, idOf, entryOf, underAge, look, put}
 use Rattle.model.specs.Reach.{Vertex, vertices, isNode, level0, levels, met, marked, inReach, reached}
 use Rattle.model.specs.State.{State, withTable, noEntry, ownEntry, ownSeq, ownData, publishAs, publish, withTlv, settle}
 use Rattle.model.specs.Refusals.{Row, late, back, smallTable, noHousehold, paidAlready, full}
 use Rattle.model.specs.Begin.{Done, freshEndpoints, started, begun, blank, refusalBegin, begin}
-use Rattle.model.specs.Snapshot.{Snapshot, reads, consTo, loadEntries, holdsOwn, load, withoutLinks, republished, resumed, noSnapshot, refusalResume, resume}
+use Rattle.model.specs.Snapshot.{Snapshot, load, withoutLinks, republished, resumed, noSnapshot, refusalResume, resume}
 use Rattle.model.specs.Pay.{paid, refusalPay, pay, purged, refusalPurge, purge}
 use Rattle.model.specs.Invariant.{EntryFits, EndpointFits, Valid, TableFits, Linked, Midway}
 use Rattle.model.proofs.Snapshots.{load-fits}
 use Rattle.model.specs.Invariant.{SnapshotFits}
 use Rattle.model.proofs.KeptParts.{none-applies, not-late, not-back, found, valid-midway, midway-held, midway-own, look-put, put-fits, publish-kept, advance-fits, fresh-fits, settle-valid}
 use Rattle.base.proofs.Options.{by-cond, by-or-else}
-use Rattle.wire.proofs.Varints.{read-most}
 use Rattle.model.proofs.KeptData.{none-good, none-linked, empty-linked, paid-good, paid-linked}
 
 -- ---- a state that is started: no peers, so no Peer TLV of ours

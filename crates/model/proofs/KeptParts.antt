@@ -4,7 +4,7 @@ use mathlib.Core.Path.{_≡_, refl, sym, ap, _∙_, subst}
 use mathlib.Core.Bool.{true, false, _&&_}
 use mathlib.Core.List.{List, [], _∷_, map}
 use mathlib.Core.Option.{Option, none, some}
-use mathlib.Core.Logic.{_↔_, inl}
+use mathlib.Core.Logic.{inl}
 use Prim.Native.Nat.{ℕ, suc, pred, _*_, _/_, _%_, _≤_, _<_, min}
 use native.Mathlib.Omega.{arith}
 use native.Mathlib.Nat.{mod-lt}
@@ -13,21 +13,19 @@ use lib.Dec.{eqb, ltb, leb}
 use borrow.Author.Tests.{eqb-true, eqb-false, ltb-false, leb-true, not-false}
 use Rattle.base.specs.Lists.{any, orElse, isSome, In, All}
 use Rattle.base.specs.Bytes.{same}
-use Rattle.base.specs.Sorted.{Ascending}
 use Rattle.base.proofs.Tests.{no-way, by-test, and-left, and-right}
 use Rattle.base.proofs.Lists.{in-any, all-in, all-more, all-map, all-set}
 use Rattle.base.proofs.Sorted.{insert-ascending, insert-length, find-some, by-find, all-insert, find-inserted, find-other, over-length}
 use Rattle.base.proofs.Places.{all-at}
-use Rattle.wire.specs.Row.{typeOf, tlvs}
 use Rattle.wire.specs.Order.{good}
-use Rattle.model.specs.Figures.{mostNodes, dataLimit, mostPeers, lastReading, leastInterval, greatestInterval}
+use Rattle.model.specs.Figures.{mostNodes, dataLimit, lastReading, leastInterval, greatestInterval}
 use Rattle.model.specs.Sequence.{circle, advance}
 use Rattle.model.specs.Table.{Entry, idOf, entryOf, look, put}
 use Rattle.model.specs.Digest.{networkDigest}
 use Rattle.model.specs.Trickle.{Trickle, fresh, hear, spend, reset, event, pointDue, intervalOver}
 use Rattle.model.specs.State.{State, Peer, Endpoint, withTable, withPeers, withTrickle, endpointAt, withEndpoint, noEndpoint, noEntry, ownEntry, ownData, publishAs, peerTlv, isPeer, contacted, resetAll, settle}
 use Rattle.model.specs.Refusals.{Row, firstOf, late, back, noSuchEndpoint}
-use Rattle.model.specs.Invariant.{EntryFits, PeerFits, Once, intervals, TrickleFits, EndpointFits, TableFits, PeersFit, Linked, EndpointsFit, Midway, Valid}
+use Rattle.model.specs.Invariant.{EntryFits, PeerFits, Once, intervals, TrickleFits, EndpointFits, TableFits, PeersFit, Linked, Midway, Valid}
 
 -- ---- a call that is not refused: no row of its table applies, and what that says of the reading and the endpoint
 

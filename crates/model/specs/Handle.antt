@@ -1,7 +1,7 @@
 -- One TLV's handling, with no knowledge of the datagram around it (document 01, A datagram; RFC 7787, 4.4 and 4.5). Assumes nothing.
 use mathlib.Core.Bool.{Bool, cond, _&&_}
 use mathlib.Core.List.{List, [], _∷_, _++_, map}
-use mathlib.Core.Option.{Option, none, some}
+use mathlib.Core.Option.{Option, some}
 use Prim.Native.Nat.{ℕ, _+_}
 use lib.ListN.{length, take}
 use lib.Dec.{eqb, ltb, leb}

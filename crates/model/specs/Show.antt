@@ -1,6 +1,6 @@
 -- The calls that only show: the reachable set with the network digest, and one node's data (document 01, Payments; What the promises must carry).
 -- Assumes nothing.
-use mathlib.Core.Bool.{Bool, cond}
+use mathlib.Core.Bool.{cond}
 use mathlib.Core.List.{List, [], _∷_, map}
 use Prim.Native.Nat.{ℕ}
 use lib.ListN.{replicate}

@@ -1,5 +1,5 @@
 -- The snapshot: saving, loading and resuming (document 01, the book). Assumes nothing.
-use mathlib.Core.Bool.{Bool, not, cond, _&&_}
+use mathlib.Core.Bool.{not, cond, _&&_}
 use mathlib.Core.List.{List, [], _∷_, _++_, map}
 use mathlib.Core.Option.{Option, none, some}
 use Prim.Native.Nat.{ℕ, zero, suc, _+_, min}
@@ -8,7 +8,7 @@ use lib.Dec.{eqb, ltb, leb}
 use Rattle.base.specs.Lists.{keep, joinAll, orElse, isSome}
 use Rattle.wire.specs.Row.{typeOf, tlvs}
 use Rattle.wire.specs.Order.{good}
-use Rattle.wire.specs.Groups.{Read, groups, readGroups}
+use Rattle.wire.specs.Groups.{groups, readGroups}
 use Rattle.model.specs.Figures.{mostNodes, dataLimit, mostAge, snapshotBytes, wide}
 use Rattle.model.specs.Sequence.{advance}
 use Rattle.model.specs.Table.{Entry, entryOf, idOf, ageAt, look, put}

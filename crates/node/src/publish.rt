@@ -8,15 +8,15 @@ use table::remove_tlv;
 use table::renumber;
 use wire::order::place_of;
 ghost use mathlib.Core.Path.{_≡_};
-ghost use mathlib.Core.Bool.{true, false};
+ghost use mathlib.Core.Bool.{true};
 ghost use Prim.Native.Nat.{_+_, _≤_};
-ghost use lib.ListN.{length, take, drop};
+ghost use lib.ListN.{length};
 ghost use Rattle.base.specs.Memory.{cut};
 ghost use Rattle.wire.specs.Row.{isRow};
 ghost use Rattle.model.specs.Figures.{dataLimit};
 ghost use Rattle.model.specs.Sequence.{advance};
 ghost use Rattle.model.specs.State.{ownSeq, ownData, publishAs, withTlv};
-ghost use Rattle.table.specs.View.{dataOf, rowAt, Stands};
+ghost use Rattle.table.specs.View.{Stands};
 ghost use Rattle.node.specs.View.{stateOf, Rep, Held, Moved};
 
 // n + k modulo 2^32.

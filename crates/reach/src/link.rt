@@ -6,7 +6,6 @@ ghost use mathlib.Core.Path.{_≡_};
 ghost use mathlib.Core.Bool.{true, _&&_};
 ghost use Prim.Native.Nat.{_≤_};
 ghost use lib.Dec.{eqb};
-ghost use lib.ListN.{take, drop};
 ghost use Rattle.wire.specs.Row.{isRow, valueOf};
 ghost use Rattle.wire.specs.Answers.{Tells};
 ghost use Rattle.model.specs.Reach.{isPeerTlv, linkOf, matches};

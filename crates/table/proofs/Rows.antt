@@ -3,26 +3,24 @@ use Prim.Native.Nat.{ℕ, zero, suc, _+_, _-_, _*_, _≤_, _<_, zero-le, suc-le-
 use mathlib.Core.Path.{_≡_, refl, sym, ap, _∙_, subst}
 use mathlib.Core.Bool.{Bool, true, false, cond}
 use mathlib.Core.List.{List, [], _∷_, _++_, map, append-nil}
-use mathlib.Core.Option.{Option, none, some}
+use mathlib.Core.Option.{none, some}
 use native.Mathlib.Nat.{not-suc-le-zero, le-of-suc-le-suc}
 use native.Mathlib.Omega.{arith}
-use lib.ListN.{length, getD, take, drop, set, length-take, length-drop, length-append, length-set, length-map, take-append-drop, drop-of-length-le, List·getD-map, List·getD-append}
+use lib.ListN.{length, getD, take, drop, set, length-take, length-drop, length-append, length-set, length-map, drop-of-length-le, List·getD-map, List·getD-append}
 use native.Mathlib.Numerals.{add-one}
-use lib.Seq.{take-suc-set, take-set-le, getD-take, getD-drop, getD-append-add, drop-cons, set-at, take-suc, append-snoc, getD-at, getD-set-same, take-set-lt, take-at, length-take-le}
-use mathlib.Core.Logic.{_⊎_, inl, inr, ⊎-elim}
-use lib.Dec.{eqb}
-use borrow.Author.Tests.{eqb-true, eqb-false}
+use lib.Seq.{take-suc-set, take-set-le, getD-take, drop-cons, append-snoc, getD-at, getD-set-same, take-set-lt, take-at, length-take-le}
+use mathlib.Core.Logic.{inl, inr}
 use Rattle.base.specs.Lists.{keep, keepBy, In, All}
-use Rattle.base.specs.Memory.{part, written, spliced, cut, Outside}
+use Rattle.base.specs.Memory.{part, written, spliced, cut}
 use Rattle.base.specs.Sorted.{find, insert, Above, Ascending}
-use Rattle.base.proofs.Tests.{by-test, by-order}
+use Rattle.base.proofs.Tests.{by-order}
 use Rattle.base.proofs.Lists.{all-keep-by}
 use Rattle.base.proofs.Sorted.{above-less, insert-lt, insert-eq, insert-gt, insert-ascending, find-no, all-insert}
 use Rattle.base.proofs.Places.{find-at, insert-over, insert-between, all-at, getD-any, pigeons}
 use Rattle.base.proofs.Written.{part-length, part-there, spliced-length, cut-length, other-slot, written-outside, same-outside, written-above, written-there, written-length}
 use Rattle.sha256.specs.Sha256.{hash16}
 use Rattle.model.specs.Figures.{mostNodes, dataLimit, tableBytes}
-use Rattle.model.specs.Table.{Entry, Statement, entryOf, idOf, put, look}
+use Rattle.model.specs.Table.{Entry, entryOf, idOf, put, look}
 use Rattle.table.specs.View.{blank, rowId, live, rowAt, dataOf, seen, view, OnlySlot, Free, Apart, FitRow, Fit, Hashed, Rows, Kept, Stands, Gap, Finding, Read, Stored, withEntries, withRow, inserted, Renumbered, SlotUsed, Purged}
 use Rattle.table.specs.declared.Table.{Table}
 use Rattle.table.specs.declared.Found.{Found}

@@ -1,14 +1,14 @@
 -- The model's Trickle steps in each of their cases, and what the invariant gives the code. Assumes nothing.
-use mathlib.Core.Path.{_≡_, refl, ap}
-use mathlib.Core.Bool.{Bool, true, false, not, cond, _&&_}
-use mathlib.Core.Logic.{_⊎_, inl, inr}
+use mathlib.Core.Path.{_≡_, ap}
+use mathlib.Core.Bool.{true, false}
+use mathlib.Core.Logic.{inl, inr}
 use Prim.Native.Nat.{ℕ, _+_, _*_, _/_, _≤_, _<_, min}
 use native.Mathlib.Omega.{arith}
 use lib.Dec.{ltb, leb}
 use borrow.Author.Tests.{lt-ltb, le-ltb, le-leb, lt-leb}
 use Rattle.base.specs.Lists.{In}
 use Rattle.model.specs.Figures.{lastReading, leastInterval, greatestInterval}
-use Rattle.model.specs.Trickle.{Trickle as ModelTrickle, Event as ModelEvent, fresh, hear, spend, reset, pointDue, event}
+use Rattle.model.specs.Trickle.{Trickle as ModelTrickle, fresh, hear, spend, reset, pointDue, event}
 use Rattle.model.specs.Invariant.{TrickleFits, intervals}
 use Rattle.trickle.specs.declared.Trickle.{Trickle}
 use Rattle.trickle.specs.View.{trickleOf, Small}

@@ -1,5 +1,5 @@
 -- The code's Trickle state as the model's. Assumes nothing.
-use Prim.Native.Nat.{ℕ, _≤_}
+use Prim.Native.Nat.{_≤_}
 use Rattle.model.specs.Figures.{lastReading, leastInterval, greatestInterval}
 use Rattle.model.specs.Trickle.{Trickle as ModelTrickle, Event as ModelEvent}
 use Rattle.trickle.specs.declared.Trickle.{Trickle}

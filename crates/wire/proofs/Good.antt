@@ -1,27 +1,27 @@
 -- Good node data, and a TLV put in its place. Assumes nothing.
 use mathlib.Core.Path.{_≡_, refl, sym, ap, _∙_}
-use mathlib.Core.Bool.{Bool, true, false, cond, _&&_, _||_, and-false, or-true}
-use mathlib.Core.List.{List, [], _∷_, _++_, append-assoc, append-nil}
+use mathlib.Core.Bool.{Bool, true, false, _&&_, and-false, or-true}
+use mathlib.Core.List.{List, [], _∷_, _++_, append-assoc}
 use mathlib.Core.Option.{Option, none, some}
 use mathlib.Core.Logic.{_⊎_, inl, inr, ⊎-elim}
-use Prim.Native.Nat.{ℕ, zero, suc, _+_, _-_, _*_, _/_, _%_, _<_, _≤_}
+use Prim.Native.Nat.{ℕ, zero, suc, _+_, _-_, _*_, _<_, _≤_}
 use native.Mathlib.Omega.{arith}
-use lib.ListN.{length, getD, take, drop, replicate, length-append, length-take, length-drop, length-replicate, take-append-drop, drop-of-length-le, List·getD-append}
-use lib.Seq.{take-at, drop-at, take-take, getD-take, getD-drop, length-take-le, drop-drop, take-all, take-add, take-append-seam, drop-append-seam, drop-append-add, drop-append-le, take-append-le, take-length, drop-length}
-use lib.Dec.{eqb, ltb, leb}
+use lib.ListN.{length, take, drop, length-append, length-take, length-drop, take-append-drop, drop-of-length-le, List·getD-append}
+use lib.Seq.{take-take, length-take-le, drop-drop, take-add, take-append-seam, drop-append-seam, drop-append-le, take-append-le}
+use lib.Dec.{leb}
 use borrow.Author.Tests.{le-leb, lt-leb, leb-true}
-use Rattle.base.specs.Bytes.{Bytes, u16At, big16, zeros, same}
+use Rattle.base.specs.Bytes.{Bytes, u16At, zeros, same}
 use Rattle.base.specs.Lists.{orElse, joinAll, keep, In}
-use Rattle.wire.specs.Row.{typeOf, lengthOf, valueOf, padding, sizeOf, heads, consTo, rowOf, row, isRow, tlvs, encode}
+use Rattle.wire.specs.Row.{typeOf, lengthOf, padding, sizeOf, heads, consTo, row, isRow, tlvs}
 use Rattle.wire.specs.Order.{before, climbs, ascending, good, place, among, without}
 use Rattle.wire.specs.declared.row.Header.{Header}
-use Rattle.wire.specs.Answers.{Size, Tells, Stands}
-use Rattle.base.proofs.Tests.{no-way, and-left, and-right, and-both, and-no, or-left, or-right, by-test}
-use Rattle.base.proofs.Bytes.{u16-drop, u16-take, bytes-left, bytes-right}
-use Rattle.base.proofs.Lists.{drop-take, part-is}
+use Rattle.wire.specs.Answers.{Tells, Stands}
+use Rattle.base.proofs.Tests.{no-way, and-left, and-right, and-both, or-left, or-right, by-test}
+use Rattle.base.proofs.Bytes.{bytes-left, bytes-right}
+use Rattle.base.proofs.Lists.{drop-take}
 use Rattle.base.proofs.Written.{part-length}
 use Rattle.wire.proofs.Ordering.{before-some, before-either, before-trans, before-self, same-self, same-is}
-use Rattle.wire.proofs.Rows.{row-end, row-bad, row-on, size-least, heads-four, heads-fits, heads-zeros, heads-made, length-of-take, size-take, is-heads, is-rest, tlvs-on, tlvs-end, is-end}
+use Rattle.wire.proofs.Rows.{row-end, row-bad, row-on, size-least, heads-four, heads-fits, heads-zeros, heads-made, length-of-take, size-take, is-heads, is-rest, tlvs-on, tlvs-end}
 
 -- the row s goes on, ascending, after the TLV t
 unfoldable pub goesOn : List ℕ → List ℕ → Bool

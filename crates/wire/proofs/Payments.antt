@@ -1,33 +1,28 @@
 -- Payments: reading step by step, and what is written reads back. Assumes nothing.
 use mathlib.Core.Path.{_≡_, refl, sym, ap, _∙_, subst}
-use mathlib.Core.Bool.{Bool, true, false, cond, _&&_}
-use mathlib.Core.List.{List, [], _∷_, _++_, append-assoc, append-nil}
+use mathlib.Core.Bool.{_&&_}
+use mathlib.Core.List.{List, [], _∷_, _++_, append-nil}
 use mathlib.Core.Option.{Option, none, some, Option·some-injective}
-use Prim.Native.Nat.{ℕ, zero, suc, _+_, _-_, _*_, _/_, _%_, _^_, _≤_, _<_}
+use Prim.Native.Nat.{ℕ, _+_, _*_, _≤_, _<_}
 use native.Mathlib.Omega.{arith}
-use lib.ListN.{length, take, drop, replicate, length-append, length-drop, length-replicate, drop-of-length-le}
-use lib.Dec.{ltb, leb}
+use lib.ListN.{length, drop, length-append}
+use lib.Dec.{leb}
 use lib.IntN.{ℤ, pos, negsuc, _+ℤ_}
 use lib.Signed.{mag}
-use borrow.Author.Tests.{le-leb, lt-leb, eq-eqb, ne-eqb, leb-true}
-use Rattle.wire.specs.declared.row.Header.{Header}
-use Rattle.wire.specs.declared.payment.Paid.{Paid}
-use Rattle.wire.specs.declared.payment.Paid.the-variants.{Readable, Unreadable}
+use borrow.Author.Tests.{le-leb, lt-leb, leb-true}
 use Rattle.wire.specs.declared.groups.Groups.{Groups}
 use Rattle.wire.specs.declared.groups.Groups.the-variants.{Value, Bad}
-use Rattle.base.specs.Bytes.{Bytes, big16}
+use Rattle.base.specs.Bytes.{Bytes}
 use Rattle.base.specs.Lists.{orElse, All}
 use Rattle.base.specs.Memory.{written}
-use Rattle.wire.specs.Row.{encode, padding, tlvs}
 use Rattle.wire.specs.Groups.{Read, groups, readGroups}
-use Rattle.wire.specs.Payment.{Payment, Payable, mostHousehold, folded, unfolded, paymentValue, paymentTlv, most, ended, readPayment}
-use Rattle.wire.specs.Answers.{asRead, Inside, asPayment, Tells}
+use Rattle.wire.specs.Payment.{Payment, Payable, mostHousehold, folded, unfolded, paymentValue, most, ended, readPayment}
+use Rattle.wire.specs.Answers.{asRead, Inside}
 use Rattle.base.specs.Signed.{sumℤ}
 use Rattle.base.proofs.Tests.{and-left, and-right, and-no, and-both, by-test}
 use Rattle.base.proofs.Options.{nothing, cond-yes, or-else-some}
 use Rattle.base.proofs.Signed.{mag-add}
 use Rattle.base.proofs.Bytes.{bytes-right}
-use Rattle.wire.proofs.Rows.{tlvs-end}
 use Rattle.wire.proofs.Varints.{got, read-written, read-once, read-most, groups-length}
 use Rattle.wire.proofs.Folding.{unfold-fold, fold-unfold}
 use Rattle.base.proofs.Written.{written-three}

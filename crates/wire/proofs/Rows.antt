@@ -1,17 +1,17 @@
 -- Rows by their next TLV. Assumes nothing.
 use mathlib.Core.Path.{_≡_, refl, sym, ap, _∙_}
-use mathlib.Core.Bool.{Bool, true, false, cond, _&&_}
-use mathlib.Core.List.{List, [], _∷_, _++_, append-assoc, append-nil}
+use mathlib.Core.Bool.{Bool, true, false, cond}
+use mathlib.Core.List.{List, [], _∷_}
 use mathlib.Core.Option.{Option, none, some}
-use Prim.Native.Nat.{ℕ, zero, suc, _+_, _-_, _*_, _/_, _%_, _<_, _≤_}
+use Prim.Native.Nat.{ℕ, zero, suc, _+_, _-_, _<_, _≤_}
 use native.Mathlib.Omega.{arith}
-use lib.ListN.{length, getD, take, drop, replicate, length-append, length-take, length-drop, length-replicate, take-append-drop, drop-of-length-le, List·getD-append}
-use lib.Seq.{take-at, drop-at, take-take, getD-take, getD-drop, length-take-le, drop-drop, take-all, take-append-seam, drop-append-seam, drop-append-add, drop-append-le, take-append-le, take-length, drop-length}
-use lib.Dec.{eqb, ltb, leb}
+use lib.ListN.{length, take, drop, length-drop}
+use lib.Seq.{take-take, drop-drop}
+use lib.Dec.{leb}
 use borrow.Author.Tests.{le-leb, lt-leb, leb-true}
-use Rattle.base.specs.Bytes.{u16At, big16, zeros}
-use Rattle.base.specs.Lists.{orElse, joinAll}
-use Rattle.wire.specs.Row.{typeOf, lengthOf, valueOf, padding, sizeOf, heads, consTo, rowOf, row, isRow, tlvs, encode}
+use Rattle.base.specs.Bytes.{u16At, zeros}
+use Rattle.base.specs.Lists.{orElse}
+use Rattle.wire.specs.Row.{typeOf, lengthOf, valueOf, padding, sizeOf, heads, consTo, rowOf, row, isRow, tlvs}
 use Rattle.wire.specs.declared.row.Header.{Header}
 use Rattle.wire.specs.Answers.{Size, Tells}
 use Rattle.base.proofs.Tests.{no-way, and-left, and-right, and-both, and-no, by-test}

@@ -1,18 +1,16 @@
 -- Numbers in groups: what is written reads back, in one way only; the loops' laws. Assumes nothing.
 use mathlib.Core.Path.{_≡_, refl, sym, ap, _∙_}
-use mathlib.Core.Bool.{Bool, true, false, cond}
 use mathlib.Core.List.{List, [], _∷_, _++_}
 use mathlib.Core.Option.{Option, none, some}
 use Prim.Native.Nat.{ℕ, zero, suc, _+_, _-_, _*_, _/_, _%_, _^_, _≤_, _<_}
 use native.Mathlib.Omega.{arith}
 use native.Mathlib.Nat.{mul-le-mul-right, mul-le-mul-left, mul-add, mul-assoc, mul-comm, pow-suc}
-use lib.ListN.{length, getD, take, drop, drop-of-length-le, length-append}
+use lib.ListN.{length, getD, drop, drop-of-length-le}
 use lib.Dec.{ltb, leb}
 use borrow.Author.Tests.{lt-ltb, le-ltb, le-leb, lt-leb, leb-true, ltb-true, ltb-false}
 use Rattle.base.specs.Bytes.{Bytes}
-use Rattle.base.specs.Memory.{written}
 use Rattle.wire.specs.Groups.{groupsOf, groups, Read, above, anyGroups, upTo, readGroups}
-use Rattle.base.proofs.Tests.{no-way, by-test, by-order}
+use Rattle.base.proofs.Tests.{by-test}
 use Rattle.base.proofs.Options.{nothing, cond-yes}
 use Rattle.base.proofs.Lists.{drop-next}
 

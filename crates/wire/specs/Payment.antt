@@ -1,5 +1,5 @@
 -- Payments (document 01, Payments). Assumes nothing.
-use mathlib.Core.Bool.{Bool, true, false, cond, _&&_}
+use mathlib.Core.Bool.{cond, _&&_}
 use mathlib.Core.List.{List, [], _∷_, _++_}
 use mathlib.Core.Option.{Option, none, some}
 use Prim.Native.Nat.{ℕ, _+_, _*_, _/_, _%_, _≤_}
@@ -7,7 +7,7 @@ use lib.Dec.{eqb, leb}
 use lib.IntN.{ℤ, pos, negsuc}
 use Rattle.base.specs.Lists.{orElse}
 use Rattle.wire.specs.Row.{encode}
-use Rattle.wire.specs.Groups.{Read, groups, readGroups}
+use Rattle.wire.specs.Groups.{groups, readGroups}
 
 pub record Payment : Type 0 where
   pub household : ℕ

@@ -3,12 +3,11 @@ use Rattle.sha256.proofs.hash_value.Tie as tie
 use borrow.Author.Needs.{needs}
 use mathlib.Core.Path.{_≡_, refl, sym, ap, _∙_}
 use mathlib.Core.List.{List}
-use Prim.Native.Nat.{ℕ, _+_, _-_, _/_, _%_, _≤_, _<_}
+use Prim.Native.Nat.{ℕ, _+_, _-_, _/_, _%_, _≤_}
 use native.Mathlib.Nat.{sub-zero}
 use native.Mathlib.Omega.{arith}
 use lib.ListN.{length}
-use Rattle.sha256.specs.declared.State.{State}
-use Rattle.sha256.specs.Sha256.{endOf, pad, hash, initial, hashValue, compress, blockAt}
+use Rattle.sha256.specs.Sha256.{endOf, pad, hash, initial, hashValue, compress}
 use Rattle.sha256.proofs.Padding.{pad-length, end-aligned, end-bounds, hash-step, hash-done}
 
 abbrev Inv-loop : tie.InvT-loop

@@ -1,10 +1,6 @@
 use borrow.Author.Needs.{needs}
 use Rattle.table.proofs.counted.Statement.{statement}
 use Rattle.table.proofs.counted.Tie as tie
-use native.Mathlib.Omega.{arith}
-use mathlib.Core.Path.{_≡_, refl, sym, ap, _∙_}
-use Prim.Native.Nat.{ℕ, _+_, _-_, _*_, _≤_, _<_}
-use lib.ListN.{length, take, drop}
 
 add-result : tie.Need-add-result
 add-result c = search needs

@@ -2,9 +2,7 @@ use borrow.Author.Needs.{needs}
 use Rattle.table.proofs.data_of.Statement.{statement}
 use Rattle.table.proofs.data_of.Tie as tie
 use native.Mathlib.Omega.{arith}
-use mathlib.Core.Path.{_≡_, refl, sym, ap, _∙_}
-use Prim.Native.Nat.{ℕ, _+_, _-_, _*_, _≤_, _<_}
-use lib.ListN.{length, take, drop}
+use mathlib.Core.Path.{refl}
 use Rattle.table.proofs.Rows.{data-read}
 
 row-at-requires : tie.Need-row-at-requires

@@ -1,9 +1,7 @@
 use Rattle.table.proofs.find.Statement.{statement}
 use Rattle.table.proofs.find.Tie as tie
-use Prim.Native.Nat.{ℕ, _≤_, _<_, _+_, _-_, suc}
-use mathlib.Core.Path.{_≡_, refl, sym, ap, _∙_}
+use Prim.Native.Nat.{ℕ, _≤_, _<_, _-_}
 use native.Mathlib.Omega.{arith}
-use lib.ListN.{length, take, drop, getD, length-set}
 use Rattle.table.specs.View.{rowAt}
 use Rattle.table.proofs.Rows.{id-is, id-over, ids-under}
 use borrow.Author.Needs.{needs}

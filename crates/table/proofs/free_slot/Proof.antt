@@ -1,8 +1,8 @@
 use Rattle.table.proofs.free_slot.Statement.{statement}
 use Rattle.table.proofs.free_slot.Tie as tie
-use Prim.Native.Nat.{ℕ, _≤_, _<_, _+_, _-_, suc}
-use mathlib.Core.Path.{_≡_, refl, sym, ap, _∙_, subst}
-use mathlib.Core.Bool.{Bool, true, false}
+use Prim.Native.Nat.{ℕ, _≤_, _<_, _-_}
+use mathlib.Core.Path.{subst}
+use mathlib.Core.Bool.{Bool, true}
 use native.Mathlib.Omega.{arith}
 use borrow.Author.Tests.{not-true, not-false}
 use Rattle.table.specs.View.{SlotUsed}

@@ -1,8 +1,8 @@
 use Rattle.table.proofs.insert_row.Statement.{statement}
 use Rattle.table.proofs.insert_row.Tie as tie
-use Prim.Native.Nat.{_≤_, _<_, _+_, _-_, suc}
-use mathlib.Core.Path.{_≡_, refl, sym, ap, _∙_}
-use mathlib.Core.List.{List, _++_, _∷_}
+use Prim.Native.Nat.{_≤_, _<_, _+_, _-_}
+use mathlib.Core.Path.{_≡_, sym, ap, _∙_}
+use mathlib.Core.List.{_++_, _∷_}
 use native.Mathlib.Omega.{arith}
 use lib.ListN.{length, take, drop, getD}
 use Rattle.table.specs.View.{withEntries}

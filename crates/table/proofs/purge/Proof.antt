@@ -1,11 +1,11 @@
 use Rattle.table.proofs.purge.Statement.{statement}
 use Rattle.table.proofs.purge.Tie as tie
 use native.Mathlib.Omega.{arith}
-use mathlib.Core.Path.{_≡_, refl, sym, ap, _∙_}
+use mathlib.Core.Path.{_≡_, refl, sym, _∙_}
 use mathlib.Core.List.{_++_}
 use mathlib.Core.Bool.{false}
-use Prim.Native.Nat.{ℕ, _+_, _-_, _*_, _≤_, _<_}
-use lib.ListN.{length, take, drop, getD, length-set, length-take}
+use Prim.Native.Nat.{_+_, _-_, _≤_}
+use lib.ListN.{length, take, drop, getD, length-set}
 use Rattle.base.specs.Lists.{keepBy}
 use Rattle.table.proofs.Rows.{purged, keep-on, keep-end, cond-most, live-length}
 use borrow.Author.Needs.{needs}

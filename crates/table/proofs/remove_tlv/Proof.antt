@@ -1,10 +1,8 @@
 use borrow.Author.Needs.{needs}
 use Rattle.table.proofs.remove_tlv.Statement.{statement}
 use Rattle.table.proofs.remove_tlv.Tie as tie
-use native.Mathlib.Omega.{arith}
-use mathlib.Core.Path.{_≡_, refl, sym, ap, _∙_}
-use Prim.Native.Nat.{ℕ, _+_, _-_, _*_, _≤_, _<_}
-use lib.ListN.{length, take, drop}
+use mathlib.Core.Path.{refl}
+use Prim.Native.Nat.{_-_}
 use Rattle.table.proofs.Rows.{cut-out}
 
 row-at-requires : tie.Need-row-at-requires

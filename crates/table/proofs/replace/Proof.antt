@@ -1,10 +1,8 @@
 use borrow.Author.Needs.{needs}
 use Rattle.table.proofs.replace.Statement.{statement}
 use Rattle.table.proofs.replace.Tie as tie
-use native.Mathlib.Omega.{arith}
-use mathlib.Core.Path.{_≡_, refl, sym, ap, _∙_}
-use Prim.Native.Nat.{ℕ, _+_, _-_, _*_, _≤_, _<_}
-use lib.ListN.{length, take, drop}
+use mathlib.Core.Path.{refl}
+use lib.ListN.{length}
 use Rattle.table.proofs.Rows.{replaced}
 
 row-at-requires : tie.Need-row-at-requires

@@ -1,9 +1,8 @@
 use Rattle.table.proofs.slot_used.Statement.{statement}
 use Rattle.table.proofs.slot_used.Tie as tie
-use Prim.Native.Nat.{ℕ, _≤_, _<_, _+_, _-_, suc}
-use mathlib.Core.Path.{_≡_, refl, sym, ap, _∙_}
+use Prim.Native.Nat.{ℕ, _≤_, _<_, _-_}
+use mathlib.Core.Path.{_≡_}
 use native.Mathlib.Omega.{arith}
-use lib.ListN.{length, take, drop, getD}
 use Rattle.table.specs.View.{rowAt}
 use Rattle.table.proofs.Rows.{slot-is, slots-differ}
 use borrow.Author.Needs.{needs}

@@ -2,7 +2,6 @@ use Rattle.vectors.proofs.show_lengths.Statement.{statement}
 use Rattle.vectors.proofs.show_lengths.Tie as tie
 use Prim.Native.Nat.{_+_, _-_, _≤_}
 use mathlib.Core.Path.{sym}
-use lib.ListN.{length}
 use lib.Seq.{length-take-le}
 use native.Mathlib.Omega.{arith}
 use borrow.Author.Needs.{needs}

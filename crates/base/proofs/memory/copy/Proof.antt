@@ -1,10 +1,10 @@
 use Rattle.base.proofs.memory.copy.Statement.{statement}
 use Rattle.base.proofs.memory.copy.Tie as tie
-use Prim.Native.Nat.{_≤_, _<_, _+_, _-_, suc}
-use mathlib.Core.Path.{_≡_, refl, sym, ap, _∙_}
-use mathlib.Core.List.{List, [], _++_, _∷_}
+use Prim.Native.Nat.{_≤_, _+_, _-_}
+use mathlib.Core.Path.{_≡_, refl, _∙_}
+use mathlib.Core.List.{_++_}
 use native.Mathlib.Omega.{arith}
-use lib.ListN.{length, take, drop, getD, length-set}
+use lib.ListN.{length, take, drop, length-set}
 use Rattle.base.proofs.Lists.{fill-step, fill-all}
 use borrow.Author.Needs.{needs}
 

@@ -2,10 +2,7 @@ use borrow.Author.Needs.{needs}
 use Rattle.base.proofs.memory.insert_bytes.Statement.{statement}
 use Rattle.base.proofs.memory.insert_bytes.Tie as tie
 use native.Mathlib.Omega.{arith}
-use mathlib.Core.Path.{_≡_, refl, sym, ap, _∙_}
-use Prim.Native.Nat.{ℕ, _+_, _-_, _*_, _≤_, _<_}
-use lib.ListN.{length, take, drop}
-use Rattle.base.specs.Memory.{written}
+use mathlib.Core.Path.{_∙_}
 use Rattle.base.proofs.Written.{splice-written}
 
 add-from : tie.Need-add-from

@@ -1,10 +1,9 @@
 use Rattle.base.proofs.memory.move_up.Statement.{statement}
 use Rattle.base.proofs.memory.move_up.Tie as tie
-use Prim.Native.Nat.{_≤_, _<_, _+_, _-_, suc}
-use mathlib.Core.Path.{_≡_, refl, sym, ap, _∙_}
-use mathlib.Core.List.{List, [], _++_, _∷_}
+use Prim.Native.Nat.{_≤_, _+_}
+use mathlib.Core.Path.{_≡_, refl, _∙_}
 use native.Mathlib.Omega.{arith}
-use lib.ListN.{length, take, drop, getD, length-set}
+use lib.ListN.{length, drop, length-set}
 use Rattle.base.specs.Memory.{written, part}
 use Rattle.base.proofs.Written.{up-start, up-step, up-end}
 use borrow.Author.Needs.{needs}

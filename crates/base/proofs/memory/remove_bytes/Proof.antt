@@ -2,9 +2,7 @@ use borrow.Author.Needs.{needs}
 use Rattle.base.proofs.memory.remove_bytes.Statement.{statement}
 use Rattle.base.proofs.memory.remove_bytes.Tie as tie
 use native.Mathlib.Omega.{arith}
-use mathlib.Core.Path.{_≡_, refl, sym, ap, _∙_}
-use Prim.Native.Nat.{ℕ, _+_, _-_, _*_, _≤_, _<_}
-use lib.ListN.{length, take, drop}
+use mathlib.Core.Path.{_∙_}
 use Rattle.base.proofs.Written.{cut-written}
 
 add-move-down : tie.Need-add-move-down

@@ -1,7 +1,5 @@
 use borrow.Author.Needs.{needs}
-use mathlib.Core.Path.{_≡_, sym}
-use Prim.Native.Nat.{ℕ, pred, _-_}
-use native.Mathlib.Omega.{arith}
+use Prim.Native.Nat.{_-_}
 use Rattle.node.proofs.Parts.{endpoint-put, endpoint-rep, pred-is}
 use Rattle.node.proofs.endpoints.with_endpoint.Statement.{statement}
 use Rattle.node.proofs.endpoints.with_endpoint.Tie as tie

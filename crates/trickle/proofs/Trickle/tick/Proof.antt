@@ -1,7 +1,7 @@
 use borrow.Author.Needs.{needs}
-use mathlib.Core.Path.{_≡_, sym, ap, _∙_}
+use mathlib.Core.Path.{sym, ap, _∙_}
 use mathlib.Core.Bool.{false}
-use Rattle.model.specs.Trickle.{Trickle as ModelTrickle, Event as ModelEvent}
+use Rattle.model.specs.Trickle.{Trickle as ModelTrickle}
 use Rattle.trickle.specs.View.{trickleOf}
 use Rattle.trickle.proofs.Laws.{event-due, event-over, event-none}
 use Rattle.trickle.proofs.Trickle.tick.Statement.{statement}

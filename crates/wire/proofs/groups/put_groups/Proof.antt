@@ -1,9 +1,9 @@
 use Rattle.wire.proofs.groups.put_groups.Statement.{statement}
 use Rattle.wire.proofs.groups.put_groups.Tie as tie
 use native.Mathlib.Omega.{arith}
-use Prim.Native.Nat.{ℕ, _+_, _-_, _*_, _/_, _%_, _≤_, _<_}
-use mathlib.Core.Path.{_≡_, sym, _∙_, ap, refl}
-use lib.ListN.{length, drop, take, set, length-set}
+use Prim.Native.Nat.{_+_, _/_, _%_}
+use mathlib.Core.Path.{_≡_, sym, _∙_, refl}
+use lib.ListN.{length, length-set}
 use Rattle.base.specs.Memory.{written}
 use Rattle.wire.specs.Groups.{groups}
 use Rattle.base.proofs.Written.{written-on, written-last}

@@ -1,10 +1,9 @@
 use Rattle.wire.proofs.groups.read_groups.Statement.{statement}
 use Rattle.wire.proofs.groups.read_groups.Tie as tie
 use native.Mathlib.Omega.{arith}
-use Prim.Native.Nat.{_+_, _-_, _*_, _≤_, _<_}
-use mathlib.Core.Path.{_≡_, sym, _∙_, ap, refl}
-use mathlib.Core.Bool.{true, false}
-use lib.ListN.{length, drop, take, getD}
+use Prim.Native.Nat.{_+_, _-_, _*_, _≤_}
+use mathlib.Core.Path.{_≡_, sym, _∙_}
+use lib.ListN.{length, drop}
 use Rattle.wire.specs.Groups.{readGroups}
 use Rattle.wire.proofs.Varints.{onward, read-start, onward-end, onward-short, onward-over, onward-last, onward-on, onward-sum, onward-scale, small-times}
 use borrow.Author.Needs.{needs}

@@ -2,10 +2,10 @@ use Rattle.wire.proofs.order.find_tlv.Statement.{statement}
 use Rattle.wire.proofs.order.find_tlv.Tie as tie
 use native.Mathlib.Omega.{arith}
 use Prim.Native.Nat.{_+_, _-_, _≤_}
-use mathlib.Core.Path.{_≡_, sym, _∙_, ap, refl}
+use mathlib.Core.Path.{_≡_, sym, _∙_, refl}
 use mathlib.Core.List.{_++_}
 use Rattle.base.specs.Lists.{joinAll}
-use mathlib.Core.Bool.{true, false}
+use mathlib.Core.Bool.{true}
 use lib.ListN.{length, drop, take}
 use Rattle.wire.specs.Row.{isRow, tlvs}
 use Rattle.wire.specs.Order.{among, ascending, without}

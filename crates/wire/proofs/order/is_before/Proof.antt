@@ -1,8 +1,8 @@
 use Rattle.wire.proofs.order.is_before.Statement.{statement}
 use Rattle.wire.proofs.order.is_before.Tie as tie
 use native.Mathlib.Omega.{arith}
-use Prim.Native.Nat.{_+_, _-_, _≤_}
-use mathlib.Core.Path.{_≡_, sym, _∙_, ap, refl}
+use Prim.Native.Nat.{_-_, _≤_}
+use mathlib.Core.Path.{_≡_, sym, _∙_, refl}
 use lib.ListN.{length, drop}
 use Rattle.wire.specs.Order.{before}
 use Rattle.wire.proofs.Ordering.{before-end, before-over, before-differ, before-on}

@@ -1,8 +1,8 @@
 use Rattle.wire.proofs.order.is_good.Statement.{statement}
 use Rattle.wire.proofs.order.is_good.Tie as tie
 use native.Mathlib.Omega.{arith}
-use Prim.Native.Nat.{_+_, _-_, _≤_}
-use mathlib.Core.Path.{_≡_, sym, _∙_, ap, refl}
+use Prim.Native.Nat.{_-_, _≤_}
+use mathlib.Core.Path.{_≡_, sym, _∙_}
 use mathlib.Core.Bool.{true, false}
 use lib.ListN.{length, drop, take, length-drop}
 use borrow.Author.Tests.{not-true, not-false}

@@ -1,8 +1,8 @@
 use Rattle.wire.proofs.order.is_same.Statement.{statement}
 use Rattle.wire.proofs.order.is_same.Tie as tie
 use native.Mathlib.Omega.{arith}
-use Prim.Native.Nat.{_+_, _-_, _≤_}
-use mathlib.Core.Path.{_≡_, sym, _∙_, ap, refl}
+use Prim.Native.Nat.{_-_, _≤_}
+use mathlib.Core.Path.{_≡_, sym, _∙_, refl}
 use lib.ListN.{length, drop}
 use Rattle.base.specs.Bytes.{same}
 use Rattle.wire.proofs.Ordering.{same-end, same-differ, same-on, same-size}

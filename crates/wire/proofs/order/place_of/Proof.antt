@@ -2,8 +2,8 @@ use Rattle.wire.proofs.order.place_of.Statement.{statement}
 use Rattle.wire.proofs.order.place_of.Tie as tie
 use native.Mathlib.Omega.{arith}
 use Prim.Native.Nat.{_+_, _-_, _≤_}
-use mathlib.Core.Path.{_≡_, sym, _∙_, ap, refl}
-use mathlib.Core.Bool.{true, false}
+use mathlib.Core.Path.{_≡_, sym, _∙_, refl}
+use mathlib.Core.Bool.{true}
 use lib.ListN.{length, drop, take}
 use Rattle.base.specs.Lists.{joinAll}
 use Rattle.wire.specs.Row.{isRow, tlvs}

@@ -1,13 +1,11 @@
 use Rattle.wire.proofs.payment.fold.Statement.{statement}
 use Rattle.wire.proofs.payment.fold.Tie as tie
 use native.Mathlib.Omega.{arith}
-use Prim.Native.Nat.{ℕ}
 use mathlib.Core.Bool.{true, false}
 use mir.Syntax.{w32}
-use mir.Val.{SFits, Fits}
+use mir.Val.{SFits}
 use Rattle.base.proofs.Signed.{sign, minus, minus-back, plain-back}
 use Rattle.wire.proofs.Folding.{folded-neg, folded-pos}
-use borrow.Author.Needs.{needs}
 
 sub-m : tie.Need-sub-m
 sub-m c =

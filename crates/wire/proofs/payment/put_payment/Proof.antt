@@ -2,11 +2,11 @@ use borrow.Author.Needs.{needs}
 use Rattle.wire.proofs.payment.put_payment.Statement.{statement}
 use Rattle.wire.proofs.payment.put_payment.Tie as tie
 use native.Mathlib.Omega.{arith}
-use Prim.Native.Nat.{ℕ, _+_, _-_, _≤_, _<_}
-use mathlib.Core.Path.{_≡_, sym, _∙_, ap, refl}
+use Prim.Native.Nat.{_+_, _-_, _≤_}
+use mathlib.Core.Path.{_≡_, sym, _∙_}
 use lib.ListN.{length}
 use mir.Syntax.{w32}
-use mir.Val.{SFits, toZ, ofZ}
+use mir.Val.{toZ, ofZ}
 use Rattle.base.specs.Memory.{written}
 use Rattle.wire.specs.Row.{padding}
 use Rattle.wire.specs.Payment.{Payment, paymentValue, paymentTlv}

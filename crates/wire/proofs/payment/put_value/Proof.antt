@@ -2,18 +2,13 @@ use borrow.Author.Needs.{needs}
 use Rattle.wire.proofs.payment.put_value.Statement.{statement}
 use Rattle.wire.proofs.payment.put_value.Tie as tie
 use Rattle.wire.proofs.Payments.{value-put, value-end}
-use Rattle.wire.specs.Groups.{groups}
-use Rattle.wire.specs.Payment.{Payment, paymentValue, folded}
+use Rattle.wire.specs.Payment.{Payment, folded}
 use Rattle.base.proofs.Signed.{narrow-back}
 use Rattle.wire.proofs.Varints.{groups-length}
-use Rattle.base.proofs.Written.{written-three}
 use native.Mathlib.Omega.{arith}
-use Prim.Native.Nat.{ℕ, _+_, _-_, _≤_, _<_}
-use mathlib.Core.Path.{_≡_, sym, _∙_, ap, refl}
-use lib.ListN.{length, set, length-set, length-append}
-use lib.IntN.{ℤ}
+use mathlib.Core.Path.{_≡_, _∙_, ap}
 use mir.Syntax.{w32}
-use mir.Val.{SFits, toZ, ofZ}
+use mir.Val.{SFits}
 
 put-groups-requires : tie.Need-put-groups-requires
 put-groups-requires c κs =

@@ -8,10 +8,8 @@ use Rattle.wire.specs.Payment.{most}
 use Rattle.wire.specs.Groups.{readGroups}
 use Rattle.wire.proofs.Payments.{as-bad, inside-value, first-bad, second-bad, third-bad, one-read, two-read, three-read, ended-more, ended-low, ended-high, ended-well}
 use native.Mathlib.Omega.{arith}
-use Prim.Native.Nat.{ℕ, _+_, _-_, _*_, _≤_, _<_}
-use mathlib.Core.Path.{_≡_, sym, _∙_, ap, refl}
-use mathlib.Core.Option.{Option, none, some}
-use lib.ListN.{length, drop, take, length-drop}
+use mathlib.Core.Path.{sym, _∙_}
+use lib.ListN.{drop, length-drop}
 
 read-groups-requires : tie.Need-read-groups-requires
 read-groups-requires c κs = search needs

@@ -3,8 +3,8 @@ use Rattle.wire.proofs.payment.unfold.Statement.{statement}
 use Rattle.wire.proofs.payment.unfold.Tie as tie
 use native.Mathlib.Omega.{arith}
 use mir.Syntax.{w32}
-use Prim.Native.Nat.{ℕ, _/_}
-use Rattle.base.proofs.Signed.{small, below, below-fits, below-back}
+use Prim.Native.Nat.{_/_}
+use Rattle.base.proofs.Signed.{small, below-fits, below-back}
 use Rattle.wire.proofs.Folding.{unfold-even, unfold-odd}
 
 cast-result : tie.Need-cast-result

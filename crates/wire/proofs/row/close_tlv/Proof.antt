@@ -2,8 +2,8 @@ use borrow.Author.Needs.{needs}
 use Rattle.wire.proofs.row.close_tlv.Statement.{statement}
 use Rattle.wire.proofs.row.close_tlv.Tie as tie
 use native.Mathlib.Omega.{arith}
-use Prim.Native.Nat.{ℕ, _+_, _-_, _≤_, _<_}
-use mathlib.Core.Path.{_≡_, sym, _∙_, ap, refl}
+use Prim.Native.Nat.{_+_, _-_}
+use mathlib.Core.Path.{_≡_, _∙_}
 use Rattle.wire.proofs.Encoded.{closed}
 
 pad-requires : tie.Need-pad-requires

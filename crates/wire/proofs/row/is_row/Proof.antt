@@ -1,8 +1,8 @@
 use Rattle.wire.proofs.row.is_row.Statement.{statement}
 use Rattle.wire.proofs.row.is_row.Tie as tie
 use native.Mathlib.Omega.{arith}
-use Prim.Native.Nat.{_+_, _-_, _≤_}
-use mathlib.Core.Path.{_≡_, sym, _∙_, ap, refl}
+use Prim.Native.Nat.{_-_, _≤_}
+use mathlib.Core.Path.{_≡_, sym, _∙_, refl}
 use lib.ListN.{length, drop, length-drop}
 use Rattle.wire.specs.Row.{isRow}
 use Rattle.wire.proofs.Rows.{left-end, left-bad, left-on, size-none, size-some, size-is}

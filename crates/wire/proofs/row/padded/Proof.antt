@@ -4,10 +4,8 @@ use Rattle.wire.proofs.row.padded.Tie as tie
 use borrow.Author.Tests.{eq-eqb}
 use native.Mathlib.Omega.{arith}
 use Prim.Native.Nat.{_+_, _-_}
-use mathlib.Core.Path.{_≡_, sym, _∙_, ap}
+use mathlib.Core.Path.{_≡_, sym, _∙_}
 use Rattle.base.proofs.Bytes.{zero-stop, zero-two, zero-three, zero-last}
-use Rattle.base.specs.Bytes.{zeros}
-use lib.ListN.{take, drop}
 
 returns : tie.Need-returns
 returns c = search needs

@@ -2,8 +2,7 @@ use borrow.Author.Needs.{needs}
 use Rattle.wire.proofs.row.size_at.Statement.{statement}
 use Rattle.wire.proofs.row.size_at.Tie as tie
 use native.Mathlib.Omega.{arith}
-use Prim.Native.Nat.{_+_, _-_}
-use mathlib.Core.Path.{_≡_, sym, _∙_, ap}
+use mathlib.Core.Path.{sym, _∙_}
 use borrow.Author.Tests.{not-true, not-false}
 use Rattle.wire.proofs.Rows.{size-short, size-cut, size-dirty, size-full}
 

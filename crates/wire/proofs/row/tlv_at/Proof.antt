@@ -2,9 +2,7 @@ use borrow.Author.Needs.{needs}
 use Rattle.wire.proofs.row.tlv_at.Statement.{statement}
 use Rattle.wire.proofs.row.tlv_at.Tie as tie
 use native.Mathlib.Omega.{arith}
-use Prim.Native.Nat.{_+_, _-_, _≤_}
-use mathlib.Core.Path.{_≡_, sym, _∙_, ap, refl}
-use lib.ListN.{length, drop, length-drop}
+use mathlib.Core.Path.{refl}
 use Rattle.wire.proofs.Rows.{tells, four-left}
 
 read-u16-requires : tie.Need-read-u16-requires
