@@ -5,7 +5,7 @@ use mathlib.Core.List.{List, [], _∷_, _++_, map}
 use Prim.Native.Nat.{ℕ, _+_, _-_, _≤_, _<_}
 use native.Mathlib.Omega.{arith}
 use native.Mathlib.Numerals.{add-one}
-use lib.ListN.{length, getD, take, set}
+use lib.ListN.{length, getD, take, set, replicate, length-set}
 use lib.Seq.{take-suc-set}
 use Rattle.base.specs.Lists.{any, keep, keepBy}
 use Rattle.base.proofs.Tests.{by-test}
@@ -21,7 +21,7 @@ use Rattle.model.proofs.Cases.{gone, stay}
 use Rattle.model.proofs.KeptParts.{midway-own}
 use Rattle.table.specs.View.{seen, view, Read, Stands}
 use Rattle.table.specs.declared.Entry.{Entry as Row}
-use Rattle.base.proofs.Marks.{not-at, keep-by-nil, keep-by-in, keep-by-out, keep-by-map, keep-by-places, any-places, Filled}
+use Rattle.base.proofs.Marks.{not-at, none-set, keep-by-nil, keep-by-in, keep-by-out, keep-by-map, keep-by-places, any-places, Filled, fill-start, fill-set}
 use Rattle.node.specs.View.{peerOf, peersOf, stateOf, PeersRep, Rep, Held}
 use Rattle.node.specs.declared.State.{State}
 use Rattle.node.specs.declared.peers.Peer.{Peer}
@@ -29,7 +29,7 @@ use Rattle.node.specs.declared.peers.Peers.{Peers}
 use Rattle.node.proofs.Contacts.{peers-length, peers-at}
 use Rattle.node.proofs.Parts.{state-held}
 use Rattle.node.proofs.Own.{own-entry}
-use Rattle.upkeep.specs.Ticked.{AllGood, Going}
+use Rattle.upkeep.specs.Ticked.{AllGood, Lent, Scanned, Going}
 
 abbrev pub noPeer : ModelPeer
 noPeer = record { node = 0; theirs = 0; ours = 0; contact = 0 }
@@ -70,20 +70,52 @@ module _ (clock : ℕ) (s : State) (m : List ℕ) (i : ℕ) (k : Rep s m) (h : S
 
 -- ---- a mark for each peer that goes
 
--- the marks of the peers before place i are theirs by now, and no other is set
-abbrev pub Marked : ℕ → ℕ → List Entry → List ModelPeer → ℕ → List Bool → Type 0
-Marked now endpoint t ps i marks = Filled (λ k. goes now endpoint t (getD ps k noPeer)) (λ k. false) i marks
+abbrev pub nobody : Peer
+nobody = record { node = 0; theirs = 0; ours = 0; contact = 0 }
 
-pub all-marked : (now endpoint : ℕ) (s : State) (m : List ℕ) (i : ℕ) (marks : List Bool) → PeersRep (s .peers) → s .peers .count ≡ i → length marks ≡ mostPeers
-    → Marked now endpoint (view (s .table) m) (peersOf (s .peers)) i marks → Going now endpoint (stateOf s m) marks
-unfolding stateOf
-all-marked now endpoint s m i marks k e w f =
-    let l : length (peersOf (s .peers)) ≡ s .peers .count = peers-length (s .peers) k in
-    record {
-      wide = w;
-      each = λ j h p. f .done j (omega arith) ∙ ap (goes now endpoint (view (s .table) m)) (getD-any (peersOf (s .peers)) j noPeer p h);
-      none = λ j h. f .left j (omega arith);
-    }
+-- the marks of the peers before place i are theirs by now, and no other is set
+abbrev pub Marked : ℕ → ℕ → List Entry → List Peer → ℕ → List Bool → Type 0
+Marked now endpoint t l i marks = (length marks ≡ mostPeers) × Filled (λ k. goes now endpoint t (peerOf (getD l k nobody))) (λ k. false) i marks
+
+module _ (now endpoint : ℕ) (t : List Entry) (l : List Peer) where
+  pub mark-none : Marked now endpoint t l 0 (replicate 16 false)
+  mark-none = (refl, fill-start _ _ _ (none-set 16))
+
+  pub mark-next : (i : ℕ) (marks : List Bool) (b : Bool) → Marked now endpoint t l i marks → i < mostPeers → b ≡ goes now endpoint t (peerOf (getD l i nobody)) → Marked now endpoint t l (i + 1) (set marks i b)
+  mark-next i marks b k h e =
+      (length-set marks i b ∙ k .0, fill-set (λ j. goes now endpoint t (peerOf (getD l j nobody))) (λ j. false) i marks (k .1) b (set marks i b) (rw (k .0) h) refl e)
+
+  pub mark-all : (i : ℕ) (marks : List Bool) → i ≤ length l → Marked now endpoint t l i marks → Scanned now endpoint i t l marks
+  mark-all i marks h k =
+      record {
+        wide = k .0;
+        each = λ j g p. k .1 .done j g ∙ ap (λ (q : Peer). goes now endpoint t (peerOf q)) (getD-any l j nobody p (omega arith));
+        none = λ j g. k .1 .left j g;
+      }
+
+-- the peers of the state: what the scan asks of them, and what its marks say
+module _ (clock : ℕ) (s : State) (m : List ℕ) (k : Rep s m) where
+  pub lent-midway : Midway clock (stateOf s m) → Lent clock (s .peers .count) (s .table) m (s .peers .list)
+  lent-midway mid =
+      record {
+        table = k .table;
+        fine = good-midway clock s m mid;
+        few = k .peers .few;
+        here = rw (k .peers .list) (k .peers .few);
+        heard = λ i h p. contact-midway clock s m mid i p (k .peers) h;
+      }
+
+  pub scanned-going : (endpoint : ℕ) (marks : List Bool) → Scanned clock endpoint (s .peers .count) (view (s .table) m) (s .peers .list) marks → Going clock endpoint (stateOf s m) marks
+  unfolding stateOf
+  scanned-going endpoint marks f =
+      let l : length (peersOf (s .peers)) ≡ s .peers .count = peers-length (s .peers) (k .peers) in
+      let at : (j : ℕ) → j < s .peers .count → (p : ModelPeer) → peerOf (getD (s .peers .list) j nobody) ≡ getD (peersOf (s .peers)) j p =
+      λ j h p. peer-at (s .peers) j nobody (k .peers) h ∙ getD-any (peersOf (s .peers)) j noPeer p (rw l h) in
+      record {
+        wide = f .wide;
+        each = λ j h p. f .each j (omega arith) nobody ∙ ap (goes clock endpoint (view (s .table) m)) (at j (omega arith) p);
+        none = λ j h. f .none j (omega arith);
+      }
 
 -- some peer goes
 some-keep : (f : ModelPeer → Bool) (ps : List ModelPeer) → any f ps ≡ someOf (keep f ps)

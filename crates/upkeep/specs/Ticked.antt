@@ -12,13 +12,30 @@ use Rattle.model.specs.Table.{Entry}
 use Rattle.model.specs.State.{State as ModelState, Peer as ModelPeer, ownData, publishAs, peerTlv, settle}
 use Rattle.model.specs.Tick.{goes, dropSilent, ticked}
 use Rattle.model.specs.Invariant.{Midway}
+use Rattle.table.specs.View.{view, Kept}
+use Rattle.table.specs.declared.Table.{Table}
 use Rattle.node.specs.declared.State.{State}
-use Rattle.node.specs.View.{stateOf, Rep, Moved}
+use Rattle.node.specs.declared.peers.Peer.{Peer}
+use Rattle.node.specs.View.{peerOf, stateOf, Rep, Moved}
 use Rattle.upkeep.specs.declared.tick.Ticked.{Ticked}
 
 -- every node's data are good
 abbrev pub AllGood : List Entry → Type 0
 AllGood t = All (λ e. good dataLimit (e .says .nodeData) ≡ true) t
+
+-- what the scan asks of the peers that are lent to it, of the table and of its memory: the first `count` stand there and were heard by now
+pub record Lent (now count : ℕ) (t : Table) (m : List ℕ) (list : List Peer) : Type 0 where
+  pub table : Kept t m
+  pub fine : AllGood (view t m)
+  pub few : count ≤ mostPeers
+  pub here : count ≤ length list
+  pub heard : (i : ℕ) → i < count → (p : Peer) → getD list i p .contact ≤ now
+
+-- a mark for each of the first `count` peers of the list, set exactly if it goes
+pub record Scanned (now endpoint count : ℕ) (t : List Entry) (list : List Peer) (marks : List Bool) : Type 0 where
+  pub wide : length marks ≡ mostPeers
+  pub each : (i : ℕ) → i < count → (p : Peer) → getD marks i false ≡ goes now endpoint t (peerOf (getD list i p))
+  pub none : (i : ℕ) → count ≤ i → getD marks i false ≡ false
 
 -- a mark for each peer, set exactly if it goes
 pub record Going (now endpoint : ℕ) (s : ModelState) (marks : List Bool) : Type 0 where

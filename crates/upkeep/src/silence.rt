@@ -37,7 +37,7 @@ ghost use Rattle.model.specs.Invariant.{Midway};
 ghost use Rattle.table.specs.View.{view, Kept};
 ghost use Rattle.reach.specs.Marks.{tlvOf};
 ghost use Rattle.node.specs.View.{peerOf, peersOf, stateOf, PeersRep, Rep, Held, Moved};
-ghost use Rattle.upkeep.specs.Ticked.{AllGood, Going, WithoutLink};
+ghost use Rattle.upkeep.specs.Ticked.{AllGood, Lent, Scanned, Going, WithoutLink};
 
 // The TLV is a Keep-Alive TLV for the endpoint.
 fn is_keep_alive(nd: &[u8], at: usize, h: Header, endpoint: u32) -> bool
@@ -100,21 +100,43 @@ fn is_going(t: Table, mem: &[u8], clock: u64, endpoint: u32, p: Peer) -> bool
     is_silent(interval_of(t, mem, p), clock - p.contact)
 }
 
+// A mark for each of the first `count` peers that goes: the scan of the lent peers.
+fn scan(peers: &[Peer], count: usize, t: Table, mem: &[u8], clock: u64, endpoint: u32) -> [bool; 16]
+    requires { ⌜ Lent clock count t (now mem) (now peers) ⌝ }
+    ensures { λ r. ⌜ Scanned clock endpoint count (view t (now (mem .entry))) (now (peers .entry)) r ⌝ }
+{
+    let mut marks = [false; 16];
+    let mut i = 0;
+    while i < count {
+        marks[i] = is_going(t, mem, clock, endpoint, peers[i]);
+        i += 1;
+    }
+    marks
+}
+
+// The same of a list by value, which is lent for the scan.
+fn marks_of(
+    list: [Peer; 16],
+    count: usize,
+    t: Table,
+    mem: &[u8],
+    clock: u64,
+    endpoint: u32,
+) -> [bool; 16]
+    requires { ⌜ Lent clock count t (now mem) list ⌝ }
+    ensures { λ r. ⌜ Scanned clock endpoint count (view t (now (mem .entry))) list r ⌝ }
+{
+    scan(&list, count, t, mem, clock, endpoint)
+}
+
 // A mark for each peer that goes.
 fn going(s: State, mem: &[u8], clock: u64, endpoint: u32) -> [bool; 16]
     requires { ⌜ Rep s (now mem) × Midway clock (stateOf s (now mem)) ⌝ }
     ensures { λ r. ⌜ Going clock endpoint (stateOf s (now (mem .entry))) r ⌝ }
 {
     let peers = s.peers;
-    let count = peers.count;
-    let mut marks = [false; 16];
-    let mut i = 0;
-    while i < count {
-        let p = peers.list[i];
-        marks[i] = is_going(s.table, mem, clock, endpoint, p);
-        i += 1;
-    }
-    marks
+    let list = peers.list;
+    marks_of(list, peers.count, s.table, mem, clock, endpoint)
 }
 
 // Some mark is set.
