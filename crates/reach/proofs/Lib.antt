@@ -1,4 +1,5 @@
 pub mod Links
+pub mod Fronts
 pub mod Nodes
 pub mod Waves
 pub mod Reaching

@@ -11,6 +11,7 @@ use Rattle.base.specs.Lists.{keepBy}
 use Rattle.base.proofs.Tests.{by-test}
 use Rattle.base.proofs.Places.{all-at}
 use Rattle.wire.specs.Row.{isRow}
+use Rattle.wire.specs.Order.{good}
 use Rattle.wire.proofs.Good.{good-row}
 use Rattle.model.specs.Figures.{mostNodes, dataLimit, ageLimit, mostAge, lastReading}
 use Rattle.model.specs.Table.{Entry, Statement, underAge}
@@ -59,9 +60,12 @@ module _ (clock : ℕ) (t : Table) (m : List ℕ) (g : Readable clock t m) where
     pub age-fits : (e : Row) → Read t i e → (e .since ≤ clock) × ((e .age ≤ mostAge) × (clock ≤ lastReading))
     age-fits e o = rw (o .same) (fits-at .since, (fits-at .age, g .clock))
 
-    -- its data is a row
+    -- its data is good, and so a row
+    pub data-good : (x : List ℕ) → x ≡ dataOf m (rowAt t i) → good dataLimit x ≡ true
+    data-good x e = rw e (fits-at .fine)
+
     pub data-row : (x : List ℕ) → x ≡ dataOf m (rowAt t i) → isRow x ≡ true
-    data-row x e = rw e (good-row dataLimit (dataOf m (rowAt t i)) (fits-at .fine))
+    data-row x e = good-row dataLimit x (data-good x e)
 
   module _ (r v : ℕ) (p : r < t .count) (q : v < t .count) (e : Row) (o : Read t r e) (a : ℕ) (w : a ≡ e .age + (clock - e .since)) where
     age-is : a ≡ rowAt t r .age + (clock - rowAt t r .since)

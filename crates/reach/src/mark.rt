@@ -1,4 +1,5 @@
 // The marking: the levels round our own node, one after the other, until one adds nothing.
+use crate::front::links_front;
 use crate::link::is_joined;
 use table::Entry;
 use table::Found;
@@ -27,7 +28,9 @@ fn is_leading(t: Table, mem: &[u8], clock: u64, r: usize, v: usize) -> bool
         return false;
     }
     let f = row_at(t, v);
-    is_joined(data_of(t, mem, r), e.id, data_of(t, mem, v), f.id)
+    let x = links_front(data_of(t, mem, r));
+    let y = links_front(data_of(t, mem, v));
+    is_joined(x, e.id, y, f.id)
 }
 
 // The node at place v is joined to a young node of the level.

@@ -1,12 +1,11 @@
 -- What beginning and resuming answer, step by step. Assumes nothing.
 use mathlib.Core.Path.{_≡_}
 use mathlib.Core.Bool.{true, false}
-use mathlib.Core.List.{List, [], _∷_, _++_}
+use mathlib.Core.List.{List, []}
 use mathlib.Core.Option.{some}
-use Prim.Native.Nat.{ℕ, _≤_, _<_}
-use lib.ListN.{length, drop, replicate}
-use Rattle.base.specs.Lists.{All, isSome}
-use Rattle.wire.specs.Row.{typeOf, isRow, tlvs}
+use Prim.Native.Nat.{ℕ}
+use lib.ListN.{replicate}
+use Rattle.base.specs.Lists.{isSome}
 use Rattle.model.specs.Figures.{leastInterval}
 use Rattle.model.specs.Table.{Entry}
 use Rattle.model.specs.Trickle.{fresh}
@@ -35,25 +34,6 @@ digested now s =
 -- our data published without the Peer TLVs
 unfoldable pub unlinked : ℕ → ModelState → ModelState
 unlinked now s = publish now (withoutLinks (ownData s)) s
-
--- from place `at` of the row d up to place r stand TLVs of types below `least`
-pub record Passed (d : List ℕ) (at least r : ℕ) : Type 0 where
-  pub below : List (List ℕ)
-  pub parts : tlvs (drop at d) ≡ below ++ tlvs (drop r d)
-  pub low : All (λ t. typeOf t < least) below
-  pub onward : at ≤ r
-  pub within : r ≤ length d
-  pub again : isRow (drop r d) ≡ true
-
--- the first TLV, if there is one, has the type k or more
-abbrev pub FirstFrom : ℕ → List (List ℕ) → Type 0
-FirstFrom k [] = Unit {0}
-FirstFrom k (t ∷ ts) = k ≤ typeOf t
-
--- and none of them stands there
-pub record Parted (d : List ℕ) (at least r : ℕ) : Type 0 where
-  pub passed : Passed d at least r
-  pub high : FirstFrom least (tlvs (drop r d))
 
 -- the snapshot was judged whole: only if it loads does anything change, and then the state is that of the model
 pub record ResumedFrom (now : ℕ) (bytes randoms : List ℕ) (s : State) (m : List ℕ) (r : Resumed) (m′ : List ℕ) : Type 0 where

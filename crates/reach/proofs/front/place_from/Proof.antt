@@ -2,10 +2,10 @@
 use native.Mathlib.Omega.{arith}
 use Prim.Native.Nat.{_-_}
 use lib.ListN.{length}
-use Rattle.start.specs.Started.{Passed}
-use Rattle.start.proofs.links.place_from.Statement.{statement}
-use Rattle.start.proofs.links.place_from.Tie as tie
-use Rattle.start.proofs.Parting.{passed-none, passed-on, parted-here, parted-end}
+use Rattle.reach.specs.Parts.{Passed}
+use Rattle.reach.proofs.front.place_from.Statement.{statement}
+use Rattle.reach.proofs.front.place_from.Tie as tie
+use Rattle.reach.proofs.Fronts.{passed-none, passed-on, parted-here, parted-end}
 
 abbrev Inv-loop : tie.InvT-loop
 Inv-loop d at least i₀ i = Passed d at least i
