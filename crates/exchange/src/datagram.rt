@@ -1,4 +1,5 @@
 // A datagram, TLV by TLV, and what stands last.
+use crate::tlv::is_idle;
 use crate::tlv::one_tlv;
 use base::big_endian::read_u32;
 use node::State;
@@ -57,7 +58,7 @@ fn has_other(s: &[u8], own: u32) -> bool
     false
 }
 
-// The TLVs one after the other.
+// The TLVs one after the other. One that changes nothing is skipped: the work is large, and a step copies it.
 fn all_tlvs(w: Work, mem: &mut [u8], room: &mut [u8], c: Context, datagram: &[u8]) -> Work
     requires { ⌜ Ready c w (now mem) (now room) × ((w .omitted ≡ 0) × ((w .dropped ≡ 0) × ((isRow (now datagram) ≡ true) × (length (now datagram) ≤ mostBytes)))) ⌝ }
     ensures { λ v. ⌜ Stepped c 200000 (allTlvs (contextOf c) (tlvs (now (datagram .entry)))) w (now (mem .entry)) (now (room .entry)) v (now (mem .exit)) (now (room .exit)) ⌝ }
@@ -66,10 +67,13 @@ fn all_tlvs(w: Work, mem: &mut [u8], room: &mut [u8], c: Context, datagram: &[u8
     let mut at = 0;
     while at < datagram.len() {
         let h = tlv_at(datagram, at);
+        at = h.next;
+        if is_idle(c.unicast, v.sender.known, h.kind) {
+            continue;
+        }
         let a = h.start;
         let b = a + h.len;
         v = one_tlv(v, mem, room, c, h.kind, &datagram[a..b]);
-        at = h.next;
     }
     v
 }

@@ -14,6 +14,30 @@ ghost use Prim.Native.Nat.{ℕ};
 ghost use Rattle.wire.specs.Row.{typeOf, valueOf};
 ghost use Rattle.model.specs.Handle.{onTlv, oneTlv};
 ghost use Rattle.reply.specs.View.{contextOf, Ready, Stepped};
+ghost use Rattle.exchange.specs.Passed.{handles, idle};
+
+// The types that are handled; a TLV of another is passed over.
+fn is_handled(kind: u16) -> bool
+    ensures { λ r. ⌜ r ≡ handles kind ⌝ }
+{
+    match kind {
+        1..=5 => true,
+        _ => false,
+    }
+}
+
+// A TLV of this type changes nothing: it is passed over, and no known sender's last contact is to be set.
+pub fn is_idle(unicast: bool, known: bool, kind: u16) -> bool
+    ensures { λ r. ⌜ r ≡ idle unicast known kind ⌝ }
+{
+    if is_handled(kind) {
+        return false;
+    }
+    if unicast {
+        return !known;
+    }
+    true
+}
 
 // The type decides; what is too short is passed over.
 pub fn on_tlv(w: Work, mem: &mut [u8], room: &mut [u8], c: Context, kind: u16, value: &[u8]) -> Work

@@ -10,6 +10,7 @@ use Rattle.reach.specs.Marks.{tlvOf}
 use Rattle.exchange.proofs.datagram.all_tlvs.Statement.{statement}
 use Rattle.exchange.proofs.datagram.all_tlvs.Tie as tie
 use Rattle.exchange.proofs.Tlvs.{Through, through-start, through-on, through-end}
+use Rattle.exchange.proofs.Passed.{passed-step}
 
 abbrev Inv-loop : tie.InvT-loop
 Inv-loop mem₀ room₀ c datagram v₀ at₀ mem room v at = Through c datagram v₀ mem₀ room₀ at v mem room
@@ -26,8 +27,24 @@ loop-holds c =
 tlv-at-requires : tie.Need-tlv-at-requires Inv-loop μ-loop
 tlv-at-requires c κs = (c .loop-test .taken, c .before .loop .inv .row)
 
+is-idle-requires : tie.Need-is-idle-requires Inv-loop μ-loop
+is-idle-requires c κs = search needs
+
+loop-less : tie.Need-loop-less Inv-loop μ-loop
+loop-less c = omega (arith, c .before .before .tlv-at .ensures .onward, c .before .before .tlv-at .ensures .within)
+
+loop-again : tie.Need-loop-again Inv-loop μ-loop
+loop-again c =
+    let a = c .before .before .before .before .before .before .before .before .args in
+    let p = c .before .before .before .before .before .before .before .before .pre in
+    let l = c .before .before .before .before .loop in
+    let h = c .before .before .tlv-at in
+    let s = passed-step (a .c) (l .v) (l .mem) (l .room) (tlvOf (a .datagram .now) (l .at) (h .result)) (l .inv .ready) (h .result .kind) (sym (h .ensures .kind)) (sym (c .before .is-idle .ensures) ∙ c .if1 .taken) in
+    through-on (a .c) (a .datagram .now) (a .w) (a .mem .now) (a .room .now) (l .at) (l .v) (l .mem) (l .room) (l .inv) (h .result) (h .ensures)
+    (bytes-known (a .datagram .now) (λ i. c .before .before .before .before .before .shared-slice-known .given i .fits)) (p .1 .1 .1 .1) (p .1 .0) (p .1 .1 .0) (l .v) (l .mem) (l .room) s
+
 add-b : tie.Need-add-b Inv-loop μ-loop
-add-b c = omega (arith, c .before .tlv-at .ensures .inside, c .before .tlv-at .ensures .within)
+add-b c = omega (arith, c .before .before .before .tlv-at .ensures .inside, c .before .before .before .tlv-at .ensures .within)
 
 sub-one-tlv : tie.Need-sub-one-tlv Inv-loop μ-loop
 sub-one-tlv c = omega arith
@@ -36,24 +53,24 @@ part-one-tlv-start : tie.Need-part-one-tlv-start Inv-loop μ-loop
 part-one-tlv-start c = search needs
 
 part-one-tlv-end : tie.Need-part-one-tlv-end Inv-loop μ-loop
-part-one-tlv-end c = omega (arith, c .before .before .before .tlv-at .ensures .inside, c .before .before .before .tlv-at .ensures .within)
+part-one-tlv-end c = omega (arith, c .before .before .before .before .before .tlv-at .ensures .inside, c .before .before .before .before .before .tlv-at .ensures .within)
 
 one-tlv-requires : tie.Need-one-tlv-requires Inv-loop μ-loop
-one-tlv-requires c κs = c .before .before .before .before .before .before .loop .inv .ready
+one-tlv-requires c κs = c .before .before .before .before .before .before .before .before .loop .inv .ready
 
-loop-less : tie.Need-loop-less Inv-loop μ-loop
-loop-less c = omega (arith, c .before .before .before .before .before .before .before .before .before .tlv-at .ensures .onward, c .before .before .before .before .before .before .before .before .before .tlv-at .ensures .within)
+loop-less-2 : tie.Need-loop-less-2 Inv-loop μ-loop
+loop-less-2 c = omega (arith, c .before .before .before .before .before .before .before .before .before .before .before .tlv-at .ensures .onward, c .before .before .before .before .before .before .before .before .before .before .before .tlv-at .ensures .within)
 
-loop-again : tie.Need-loop-again Inv-loop μ-loop
-loop-again c =
-    let a = c .before .before .before .before .before .before .before .before .before .before .before .before .before .before .before .args in
-    let p = c .before .before .before .before .before .before .before .before .before .before .before .before .before .before .before .pre in
-    let l = c .before .before .before .before .before .before .before .before .before .before .before .loop in
-    let h = c .before .before .before .before .before .before .before .before .before .tlv-at in
+loop-again-2 : tie.Need-loop-again-2 Inv-loop μ-loop
+loop-again-2 c =
+    let a = c .before .before .before .before .before .before .before .before .before .before .before .before .before .before .before .before .before .args in
+    let p = c .before .before .before .before .before .before .before .before .before .before .before .before .before .before .before .before .before .pre in
+    let l = c .before .before .before .before .before .before .before .before .before .before .before .before .before .loop in
+    let h = c .before .before .before .before .before .before .before .before .before .before .before .tlv-at in
     let s = c .before .before .before .before .one-tlv .ensures (tlvOf (a .datagram .now) (l .at) (h .result)) (sym (h .ensures .kind))
     (h .ensures .value ∙ sym (part-is (a .datagram .now) (h .result .start) (h .result .start + h .result .len) (h .result .len) refl)) in
     through-on (a .c) (a .datagram .now) (a .w) (a .mem .now) (a .room .now) (l .at) (l .v) (l .mem) (l .room) (l .inv) (h .result) (h .ensures)
-    (bytes-known (a .datagram .now) (λ i. c .before .before .before .before .before .before .before .before .before .before .before .before .shared-slice-known .given i .fits)) (p .1 .1 .1 .1) (p .1 .0) (p .1 .1 .0) (c .before .before .before .before .one-tlv .result) _ _ s
+    (bytes-known (a .datagram .now) (λ i. c .before .before .before .before .before .before .before .before .before .before .before .before .before .before .shared-slice-known .given i .fits)) (p .1 .1 .1 .1) (p .1 .0) (p .1 .1 .0) (c .before .before .before .before .one-tlv .result) _ _ s
 
 same-length : tie.Need-same-length Inv-loop μ-loop
 same-length c = c .before .loop .inv .stepped .size
@@ -75,13 +92,16 @@ all-tlvs-spec =
     μ-loop
     loop-holds
     tlv-at-requires
+    is-idle-requires
+    loop-less
+    loop-again
     add-b
     sub-one-tlv
     part-one-tlv-start
     part-one-tlv-end
     one-tlv-requires
-    loop-less
-    loop-again
+    loop-less-2
+    loop-again-2
     same-length
     same-length-2
     returns)
