@@ -12,14 +12,14 @@ use Rattle.base.specs.Bytes.{Bytes}
 use Rattle.base.specs.Lists.{In, All, keep, joinAll}
 use Rattle.base.proofs.Tests.{no-way, by-order, and-left, and-right}
 use Rattle.base.proofs.Lists.{in-all, all-append, keep-append, join-append}
-use Rattle.wire.specs.Row.{typeOf, valueOf, isRow, tlvs}
+use Rattle.wire.specs.Row.{typeOf, isRow, tlvs}
 use Rattle.wire.specs.Order.{before, climbs, ascending, good}
 use Rattle.wire.specs.Answers.{Tells}
 use Rattle.wire.specs.declared.row.Header.{Header}
 use Rattle.wire.proofs.Ordering.{before-head, before-tail}
 use Rattle.wire.proofs.Rows.{tlvs-end, heads-four}
 use Rattle.wire.proofs.Good.{Whole, Wholes, good-row, good-rises, row-joined, tlvs-joined, tlvs-whole, tlvs-row, tlvs-bytes}
-use Rattle.model.specs.Reach.{linkOf, isPeerTlv, links, joined}
+use Rattle.model.specs.Reach.{isPeerTlv, links, joined}
 use Rattle.reach.specs.Marks.{joins}
 use Rattle.reach.specs.Parts.{Passed, FirstFrom, Parted, Front}
 
