@@ -13,16 +13,18 @@ use Rattle.base.proofs.Places.{all-at}
 use Rattle.wire.specs.Row.{isRow}
 use Rattle.wire.specs.Order.{good}
 use Rattle.wire.proofs.Good.{good-row}
-use Rattle.model.specs.Figures.{mostNodes, dataLimit, ageLimit, mostAge, lastReading}
+use Rattle.model.specs.Figures.{mostNodes, dataLimit, tableBytes, ageLimit, mostAge, lastReading}
 use Rattle.model.specs.Table.{Entry, Statement, underAge}
 use Rattle.model.specs.Reach.{Vertex, vertices, joined, touched}
 use Rattle.model.specs.Invariant.{EntryFits}
 use Rattle.table.specs.declared.Table.{Table}
 use Rattle.table.specs.declared.Entry.{Entry as Row}
-use Rattle.table.specs.View.{blank, rowAt, dataOf, seen, view, Rows, Read}
+use Rattle.table.specs.View.{blank, rowAt, dataOf, seen, view, FitRow, Rows, Read}
 use Rattle.table.proofs.Rows.{view-length, view-at}
 use Rattle.base.proofs.Marks.{keep-by-end, keep-by-next}
 use Rattle.reach.specs.Marks.{joins, Readable, noVertex, Leads}
+use Rattle.reach.specs.Parts.{Front}
+use Rattle.reach.proofs.Fronts.{joins-front}
 
 -- ---- a node
 
@@ -60,12 +62,13 @@ module _ (clock : ℕ) (t : Table) (m : List ℕ) (g : Readable clock t m) where
     pub age-fits : (e : Row) → Read t i e → (e .since ≤ clock) × ((e .age ≤ mostAge) × (clock ≤ lastReading))
     age-fits e o = rw (o .same) (fits-at .since, (fits-at .age, g .clock))
 
-    -- its data is good, and so a row
-    pub data-good : (x : List ℕ) → x ≡ dataOf m (rowAt t i) → good dataLimit x ≡ true
-    data-good x e = rw e (fits-at .fine)
+    -- what `front_of` asks of it: its data is good
+    pub front-asks : (e : Row) → Read t i e → FitRow e × ((tableBytes ≤ length m) × (good dataLimit (dataOf m e) ≡ true))
+    front-asks e o = ((o .low, o .short), (g .kept .room, rw (o .same) (fits-at .fine)))
 
+    -- its data is a row
     pub data-row : (x : List ℕ) → x ≡ dataOf m (rowAt t i) → isRow x ≡ true
-    data-row x e = good-row dataLimit x (data-good x e)
+    data-row x e = rw e (good-row dataLimit (dataOf m (rowAt t i)) (fits-at .fine))
 
   module _ (r v : ℕ) (p : r < t .count) (q : v < t .count) (e : Row) (o : Read t r e) (a : ℕ) (w : a ≡ e .age + (clock - e .since)) where
     age-is : a ≡ rowAt t r .age + (clock - rowAt t r .since)
@@ -74,10 +77,10 @@ module _ (clock : ℕ) (t : Table) (m : List ℕ) (g : Readable clock t m) where
     pub old-leads : ageLimit ≤ a → Leads clock (view t m) r v ≡ false
     old-leads l = rw (node-at r p, le-ltb (rowAt t r .age + (clock - rowAt t r .since)) ageLimit (omega (arith, age-is)))
 
-    pub young-leads : a < ageLimit → (f : Row) → Read t v f → (x y : List ℕ) → x ≡ dataOf m (rowAt t r) → y ≡ dataOf m (rowAt t v) → {b : Bool} → b ≡ joins (e .id) x (f .id) y → b ≡ Leads clock (view t m) r v
-    young-leads l f u x y ex ey j =
+    pub young-leads : a < ageLimit → (f : Row) → Read t v f → (x y : List ℕ) → Front (dataOf m e) x → Front (dataOf m f) y → {b : Bool} → b ≡ joins (e .id) x (f .id) y → b ≡ Leads clock (view t m) r v
+    young-leads l f u x y fx fy j =
         rw (node-at r p, node-at v q, lt-ltb (rowAt t r .age + (clock - rowAt t r .since)) ageLimit (omega (arith, age-is)))
-        (j ∙ rw (o .same, u .same, ex, ey) (joins-says (seen m (rowAt t r) .says) (seen m (rowAt t v) .says)))
+        (j ∙ joins-front (e .id) (f .id) (dataOf m e) x (dataOf m f) y fx fy ∙ rw (o .same, u .same) (joins-says (seen m (rowAt t r) .says) (seen m (rowAt t v) .says)))
 
 pub few-nodes : (t : Table) (m : List ℕ) → Rows t → length (view t m) ≤ mostNodes
 few-nodes t m k = rw (view-length t k m) (k .most)

@@ -1,4 +1,6 @@
 // The front part of good data: its TLVs ascend by type, so that all its Peer TLVs stand before the first TLV of a higher type.
+use table::Entry;
+use table::SLOT;
 use wire::row::tlv_at;
 ghost use mathlib.Core.Path.{_≡_};
 ghost use mathlib.Core.Bool.{true};
@@ -6,7 +8,8 @@ ghost use Prim.Native.Nat.{_≤_};
 ghost use lib.ListN.{length, drop};
 ghost use Rattle.wire.specs.Row.{isRow};
 ghost use Rattle.wire.specs.Order.{good};
-ghost use Rattle.model.specs.Figures.{dataLimit};
+ghost use Rattle.model.specs.Figures.{dataLimit, tableBytes};
+ghost use Rattle.table.specs.View.{dataOf, FitRow};
 ghost use Rattle.reach.specs.Parts.{Parted, Front};
 
 // The place, from `at` on, of the first TLV whose type is `least` or more; the end where there is none.
@@ -32,4 +35,14 @@ pub fn links_front<'a>(d: &'a [u8]) -> &'a [u8]
 {
     let end = place_from(d, 0, 9);
     &d[0..end]
+}
+
+// The front part of the data of the row e.
+pub fn front_of<'a>(e: Entry, mem: &'a [u8]) -> &'a [u8]
+    requires { ⌜ FitRow e × ((tableBytes ≤ length (now mem)) × (good dataLimit (dataOf (now mem) e) ≡ true)) ⌝ }
+    ensures { λ r. ⌜ Front (dataOf (now (mem .entry)) e) (now r) ⌝ }
+{
+    let a = e.slot * SLOT;
+    let b = a + e.len;
+    links_front(&mem[a..b])
 }

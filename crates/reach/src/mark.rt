@@ -1,11 +1,10 @@
 // The marking: the levels round our own node, one after the other, until one adds nothing.
-use crate::front::links_front;
+use crate::front::front_of;
 use crate::link::is_joined;
 use table::Entry;
 use table::Found;
 use table::Table;
 use table::age_at;
-use table::data_of;
 use table::find;
 use table::row_at;
 ghost use mathlib.Core.Path.{_≡_};
@@ -28,9 +27,7 @@ fn is_leading(t: Table, mem: &[u8], clock: u64, r: usize, v: usize) -> bool
         return false;
     }
     let f = row_at(t, v);
-    let x = links_front(data_of(t, mem, r));
-    let y = links_front(data_of(t, mem, v));
-    is_joined(x, e.id, y, f.id)
+    is_joined(front_of(e, mem), e.id, front_of(f, mem), f.id)
 }
 
 // The node at place v is joined to a young node of the level.
