@@ -23,7 +23,7 @@ use Rattle.node.specs.View.{stateOf, Rep, Settled}
 use Rattle.node.proofs.Parts.{state-own}
 use Rattle.reply.specs.declared.Context.{Context}
 use Rattle.reply.specs.declared.Work.{Work}
-use Rattle.reply.specs.View.{contextOf, workOf, Ready, Stepped, Markable, Refreshed}
+use Rattle.reply.specs.View.{contextOf, workOf, Ready, Stepped, Markable}
 use Rattle.reply.proofs.Steps.{work-state, work-out, work-omitted, work-dropped}
 use Rattle.exchange.specs.Received.{callOf, Received}
 
@@ -80,23 +80,20 @@ module _ (s : State) (m r d : List ℕ) (clock endpoint : ℕ) (unicast others :
         cached = p .sound .cached;
       }
 
-  -- and what stands last
-  module _ (u : Work) (h : Refreshed (contextIn clock endpoint unicast others) v m′ u) (q : State) (k : Settled clock randoms (u .reached .digest) (u .state) q) where
-    digest-is : u .reached .digest ≡ networkDigest (u .state .own) clock (view (u .state .table) m′)
-    digest-is = rw (h .state) (h .reaching .digest)
-
+  -- and what stands last: the state settled with the digest x
+  module _ (x : List ℕ) (h : x ≡ networkDigest (v .state .own) clock (view (v .state .table) m′)) (q : State) (k : Settled clock randoms x (v .state) q) where
     settled-is : stateOf q m′ ≡ settle clock randoms (workOf v m′ r′ .state)
-    settled-is = k .is m′ digest-is ∙ ap (λ (x : State). settle clock randoms (stateOf x m′)) (h .state) ∙ ap (settle clock randoms) (sym (work-state v m′ r′))
+    settled-is = k .is m′ h ∙ ap (settle clock randoms) (sym (work-state v m′ r′))
 
-    pub received : Received s m r d clock endpoint unicast randoms (record { state = q; length = u .used; omitted = u .omitted; dropped = u .dropped }) m′ r′
+    pub received : Received s m r d clock endpoint unicast randoms (record { state = q; length = v .used; omitted = v .omitted; dropped = v .dropped }) m′ r′
     received =
         record {
-          rep = k .rep m′ (rw (h .state) (p .sound .rep));
-          is = same-answer settled-is (ap (λ (n : ℕ). take n r′) (h .used) ∙ sym (work-out v m′ r′)) (h .omitted ∙ sym (work-omitted v m′ r′)) (h .dropped ∙ sym (work-dropped v m′ r′))
+          rep = k .rep m′ (p .sound .rep);
+          is = same-answer settled-is (sym (work-out v m′ r′)) (sym (work-omitted v m′ r′)) (sym (work-dropped v m′ r′))
               ∙ ap (answered (callOf d clock endpoint unicast randoms (length m) (length r))) handled-is;
-          used = rw (h .used) (p .sound .used);
+          used = p .sound .used;
           size = p .size;
           beyond = p .beyond;
           room = p .room;
-          rest = rw (h .used) (p .rest);
+          rest = p .rest;
         }

@@ -5,10 +5,10 @@ use base::big_endian::read_u32;
 use node::State;
 use node::settle::settle;
 use reach::Reached;
+use reach::reach;
 use reply::Context;
 use reply::Sender;
 use reply::Work;
-use reply::request::refreshed;
 use wire::row::Header;
 use wire::row::tlv_at;
 ghost use mathlib.Core.Path.{_≡_};
@@ -19,12 +19,14 @@ ghost use Rattle.base.specs.Lists.{any};
 ghost use Rattle.wire.specs.Row.{isRow, tlvs};
 ghost use Rattle.wire.specs.Answers.{Tells};
 ghost use Rattle.model.specs.Figures.{mostBytes, lastReading};
+ghost use Rattle.model.specs.Digest.{networkDigest};
 ghost use Rattle.model.specs.Handle.{allTlvs};
 ghost use Rattle.model.specs.Receive.{aboutOther};
 ghost use Rattle.model.specs.Invariant.{Midway};
+ghost use Rattle.table.specs.View.{view};
 ghost use Rattle.node.specs.View.{stateOf, Rep};
 ghost use Rattle.reach.specs.Marks.{tlvOf};
-ghost use Rattle.reply.specs.View.{contextOf, Ready, Stepped};
+ghost use Rattle.reply.specs.View.{contextOf, Ready, Stepped, Markable};
 ghost use Rattle.exchange.specs.Received.{Received};
 
 // The TLV is a Node State, long enough, about another node.
@@ -86,6 +88,18 @@ pub struct Outcome {
     pub dropped: u32,
 }
 
+// The network digest once all TLVs are handled; worked out, unless nothing has changed since it was.
+fn last_digest(w: Work, mem: &[u8], c: Context) -> [u8; 16]
+    requires { ⌜ Markable c w (now mem) ⌝ }
+    ensures { λ r. ⌜ r ≡ networkDigest (w .state .own) (c .clock) (view (w .state .table) (now (mem .entry))) ⌝ }
+{
+    if w.fresh {
+        return w.reached.digest;
+    }
+    let r = reach(w.state.table, mem, w.state.own, c.clock);
+    r.digest
+}
+
 // A datagram that is not refused.
 pub fn handle(
     s: State,
@@ -123,12 +137,11 @@ pub fn handle(
         },
     };
     let v = all_tlvs(w, mem, room, c, datagram);
-    let u = refreshed(v, mem, c);
-    let digest = u.reached.digest;
+    let digest = last_digest(v, mem, c);
     Outcome {
-        state: settle(u.state, clock, randoms, digest),
-        length: u.used,
-        omitted: u.omitted,
-        dropped: u.dropped,
+        state: settle(v.state, clock, randoms, digest),
+        length: v.used,
+        omitted: v.omitted,
+        dropped: v.dropped,
     }
 }

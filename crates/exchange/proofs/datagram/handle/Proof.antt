@@ -14,8 +14,8 @@ all-tlvs-requires c κs =
     let p = c .before .before .before .before .before .before .pre in
     (first-ready (a .s) (a .mem .now) (a .room .now) (a .clock) (a .endpoint) (a .unicast) (c .before .before .has-other .result) _ (p .0) (p .1 .0) (p .1 .1 .0) (p .1 .1 .1 .0) (p .1 .1 .1 .1 .0) (p .1 .1 .1 .1 .1 .0), (refl, (refl, p .1 .1 .1 .1 .1 .1)))
 
-refreshed-requires : tie.Need-refreshed-requires
-refreshed-requires c κs =
+last-digest-requires : tie.Need-last-digest-requires
+last-digest-requires c κs =
     let a = c .before .before .before .before .before .before .before .before .before .before .before .before .args in
     let p = c .before .before .before .before .before .before .before .before .before .before .before .before .pre in
     handled-markable (a .s) (a .mem .now) (a .room .now) (a .datagram .now) (a .clock) (a .endpoint) (a .unicast) (c .before .before .before .before .before .before .before .before .has-other .result) _ (c .before .before .before .before .before .before .before .before .has-other .ensures) (c .before .before .before .before .before .all-tlvs .result) _ _ (c .before .before .before .before .before .all-tlvs .ensures) (a .randoms)
@@ -32,9 +32,9 @@ same-length-2 c = search needs
 
 returns : tie.Need-returns
 returns c =
-    let a = c .before .before .before .before .before .before .before .before .before .before .before .before .before .before .before .args in
-    received (a .s) (a .mem .now) (a .room .now) (a .datagram .now) (a .clock) (a .endpoint) (a .unicast) (c .before .before .before .before .before .before .before .before .before .before .before .has-other .result) _ (c .before .before .before .before .before .before .before .before .before .before .before .has-other .ensures) (c .before .before .before .before .before .before .before .before .all-tlvs .result) _ _ (c .before .before .before .before .before .before .before .before .all-tlvs .ensures) (a .randoms)
-    (c .before .before .refreshed .result) (c .before .before .refreshed .ensures) (c .settle .result) (c .settle .ensures)
+    let a = c .before .before .before .before .before .before .before .before .before .before .before .before .before .before .args in
+    received (a .s) (a .mem .now) (a .room .now) (a .datagram .now) (a .clock) (a .endpoint) (a .unicast) (c .before .before .before .before .before .before .before .before .before .before .has-other .result) _ (c .before .before .before .before .before .before .before .before .before .before .has-other .ensures) (c .before .before .before .before .before .before .before .all-tlvs .result) _ _ (c .before .before .before .before .before .before .before .all-tlvs .ensures) (a .randoms)
+    (c .before .last-digest .result) (c .before .last-digest .ensures) (c .settle .result) (c .settle .ensures)
 
 pub handle-spec : {M : Type 1} → statement M
 handle-spec =
@@ -42,7 +42,7 @@ handle-spec =
     (tie.spec
     has-other-requires
     all-tlvs-requires
-    refreshed-requires
+    last-digest-requires
     settle-requires
     same-length
     same-length-2
