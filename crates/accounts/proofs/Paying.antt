@@ -25,8 +25,8 @@ use Rattle.model.specs.Refusals.{firstOf, paidAlready, full}
 use Rattle.model.specs.State.{State as ModelState, ownData, ownSeq, publishAs, publish, withTlv}
 use Rattle.model.specs.Pay.{paid}
 use Rattle.model.specs.Invariant.{Midway}
-use Rattle.model.proofs.KeptParts.{midway-own, publish-kept, advance-fits}
-use Rattle.model.proofs.KeptData.{paid-good, paid-linked}
+use Rattle.model.proofs.KeptParts.{midway-own}
+use Rattle.model.proofs.KeptCalls.{published-midway}
 use Rattle.table.specs.View.{view}
 use Rattle.reach.specs.declared.Reached.{Reached}
 use Rattle.reach.specs.Marks.{Readable, Reaching}
@@ -47,13 +47,6 @@ own-fine now s w d e =
 module _ (now : ℕ) (p : Payment) (s : ModelState) where
   abbrev published : ModelState
   published = publish now (withTlv (paymentTlv p) (ownData s)) s
-
-  published-midway : Midway now s → among (paymentTlv p) (tlvs (ownData s)) ≡ false → length (ownData s) + length (paymentTlv p) ≤ dataLimit → Midway now published
-  unfolding publishAs
-  published-midway w n room =
-      let g : good dataLimit (ownData s) ≡ true = midway-own s w .fine in
-      publish-kept (advance (ownSeq s) 1) (withTlv (paymentTlv p) (ownData s)) (s .peers) s w (advance-fits (ownSeq s) 1)
-      (paid-good p (ownData s) (s .peers) (w .links) g n room) (w .peers) (paid-linked p (ownData s) (s .peers) (w .links) g n room)
 
 -- ---- the payment's TLV as the code writes it: to the front of d, which becomes d′, in n bytes
 

@@ -13,17 +13,18 @@ use Rattle.table.specs.declared.Table.{Table}
 use Rattle.table.specs.View.{view, Purged}
 use Rattle.reach.specs.declared.Reached.{Reached}
 use Rattle.reach.specs.Marks.{Readable, Reaching}
+use Rattle.reach.proofs.Nodes.{fits-readable}
 use Rattle.reach.proofs.Reaching.{reached-by}
 use Rattle.node.specs.declared.State.{State}
 use Rattle.node.specs.View.{stateOf, Rep, Held, Moved, Settled}
-use Rattle.node.proofs.Parts.{state-held, putTable}
+use Rattle.node.proofs.Parts.{putTable}
 use Rattle.node.proofs.Moves.{moved-to, moved-then, purged-moved}
 use Rattle.node.proofs.Settling.{settled-moved}
 
 -- within a call the marking may read the table, and our own node stands there
 pub midway-readable : (now : ℕ) (s : State) (m : List ℕ) → Rep s m → Midway now (stateOf s m) → now ≤ lastReading → Readable now (s .table) m × Held s m
 unfolding stateOf
-midway-readable now s m k w l = (record { kept = k .table; entries = w .table .entries; clock = l }, state-held s m (w .table .held))
+midway-readable now s m k w l = (fits-readable (s .own) now (s .table) m (k .table) (w .table) l, w .table .held)
 
 module _ {now : ℕ} {a : ModelState} {m : List ℕ} {r : State} {m′ : List ℕ} (h : Moved a m r m′) where
   pub moved-readable : Midway now a → now ≤ lastReading → Readable now (r .table) m′ × Held r m′

@@ -1,11 +1,11 @@
 -- Sums step by step: a TLV, a node's data, the marked nodes of the table. Assumes nothing.
 use mathlib.Core.Path.{_≡_, sym, ap, _∙_}
 use mathlib.Core.Bool.{Bool, true, false, cond, _||_}
-use mathlib.Core.List.{List, [], _∷_, _++_, append-nil}
+use mathlib.Core.List.{List, [], _∷_, _++_}
 use mathlib.Core.Option.{Option, none, some}
 use Prim.Native.Nat.{ℕ, _+_, _*_, _/_, _≤_, _<_}
 use native.Mathlib.Omega.{arith}
-use lib.ListN.{length, getD, take, drop, length-append, length-take}
+use lib.ListN.{length, getD, take, drop, length-take}
 use lib.Seq.{take-all}
 use lib.Dec.{eqb}
 use lib.IntN.{ℤ, pos, _+ℤ_, +ℤ-idl, +ℤ-idr, +ℤ-assoc}
@@ -17,7 +17,6 @@ use Rattle.base.specs.Lists.{keepBy}
 use Rattle.base.proofs.Tests.{by-test}
 use Rattle.base.proofs.Options.{by-option}
 use Rattle.base.proofs.Lists.{map-append, all-keep-by, all-take}
-use Rattle.base.proofs.Places.{all-at}
 use Rattle.base.proofs.Marks.{keep-by-nil, keep-by-length, keep-by-in, keep-by-out}
 use Rattle.base.proofs.Signed.{narrow-back, wide-back, wide-fits}
 use Rattle.wire.specs.Order.{good}
@@ -30,10 +29,10 @@ use Rattle.wire.proofs.Payments.{read-payable, payable-mag, mag-step}
 use Rattle.model.specs.Figures.{mostNodes, dataLimit}
 use Rattle.model.specs.Table.{Entry, Statement, statements}
 use Rattle.model.specs.Totals.{totalOf, sumOf, unreadable, paymentsIn}
-use Rattle.model.proofs.Totals.{paymentsOf, payments-append, payments-counted, payments-few, unreadable-append, tally, tally-none, tally-append, tally-mag, ofHousehold, total-is, sum-is, Summing, summing-start, summing-end, summing-pass, summing-unreadable, summing-skip, summing-pick}
+use Rattle.model.proofs.Totals.{paymentsOf, payments-append, payments-counted, payments-good, payments-node, unreadable-append, tally, tally-none, tally-append, tally-mag, ofHousehold, total-is, sum-is, Summing, summing-start, summing-end, summing-pass, summing-unreadable, summing-skip, summing-pick}
 use Rattle.table.specs.declared.Table.{Table}
 use Rattle.table.specs.View.{blank, rowAt, dataOf, seen, view, Kept}
-use Rattle.table.proofs.Rows.{view-length, view-at}
+use Rattle.table.proofs.Rows.{view-length, view-at, view-each}
 use Rattle.accounts.specs.Tallied.{sumFor, Tallied, AllGood, counted, addPaid, addTlv, Added, alone, amountLimit, mostPayments, Room}
 use Rattle.accounts.specs.declared.totals.Whose.{Whose}
 use Rattle.accounts.specs.declared.totals.Total.{Total}
@@ -119,11 +118,6 @@ by-whose false h ss = total-is h ss
 sum-for : (w : Whose) (ss : List Statement) → sumFor w ss ≡ tally (picked w) (paymentsIn ss)
 sum-for w ss = by-whose (w .all) (w .household) ss
 
--- one node's payments
-payments-one : (s : Statement) → paymentsIn (s ∷ []) ≡ paymentsOf (s .nodeData)
-unfolding paymentsIn
-payments-one s = append-nil (paymentsOf (s .nodeData))
-
 -- ---- one node's data d: r is t with the TLVs before place at
 
 abbrev pub AddedTo : Whose → List ℕ → Total → Total → ℕ → Type 0
@@ -157,8 +151,8 @@ module _ (w : Whose) (d : List ℕ) (t : Total) where
     data-end l =
         let e = summing-end (picked w) d mostPayments at (r .value) (r .unread) _ _ s l in
         record {
-          value = e .0 ∙ ap (λ (x : ℤ). t .value +ℤ x) (sym (sum-for w (alone d ∷ []) ∙ ap (tally (picked w)) (payments-one (alone d))));
-          unread = e .1 ∙ ap (λ (ts : List (List ℕ)). t .unread + unreadable ts) (sym (payments-one (alone d)));
+          value = e .0 ∙ ap (λ (x : ℤ). t .value +ℤ x) (sym (sum-for w (alone d ∷ []) ∙ ap (tally (picked w)) (payments-node (alone d))));
+          unread = e .1 ∙ ap (λ (ts : List (List ℕ)). t .unread + unreadable ts) (sym (payments-node (alone d)));
         }
 
 -- ---- node after node: sums over some nodes, and over others after them
@@ -167,7 +161,7 @@ module _ (w : Whose) where
   -- only what a node publishes matters
   added-says : (d : List ℕ) (s : Statement) (t r : Total) → d ≡ s .nodeData → Added w (alone d ∷ []) t r → Added w (s ∷ []) t r
   added-says d s t r e a =
-      let q : paymentsIn (alone d ∷ []) ≡ paymentsIn (s ∷ []) = payments-one (alone d) ∙ ap paymentsOf e ∙ sym (payments-one s) in
+      let q : paymentsIn (alone d ∷ []) ≡ paymentsIn (s ∷ []) = payments-node (alone d) ∙ ap paymentsOf e ∙ sym (payments-node s) in
       record {
         value = a .value ∙ ap (λ (x : ℤ). t .value +ℤ x) (sum-for w (alone d ∷ []) ∙ ap (tally (picked w)) q ∙ sym (sum-for w (s ∷ [])));
         unread = a .unread ∙ ap (λ (ts : List (List ℕ)). t .unread + unreadable ts) q;
@@ -195,13 +189,6 @@ module _ (w : Whose) where
 
 -- ---- the marked nodes of a table
 
--- a node's good data hold 256 payments at most
-payments-room : (t : List Entry) → AllGood t → length (paymentsIn (statements t)) ≤ dataLimit / 4 * length t
-unfolding paymentsIn
-payments-room [] h = omega arith
-payments-room (e ∷ t) h =
-    omega (arith, length-append (paymentsOf (e .says .nodeData)) (paymentsIn (statements t)), payments-few (e .says .nodeData) (h .0), payments-room t (h .1))
-
 -- r sums the marked nodes below place i
 abbrev pub AddedBelow : Whose → List Bool → List Entry → Total → ℕ → Type 0
 AddedBelow w marks t r i = Added w (statements (keepBy marks (take i t))) (total (pos 0) 0) r
@@ -217,7 +204,7 @@ module _ (w : Whose) (marks : List Bool) (t : List Entry) where
         let es : List Entry = keepBy marks (take i t) in
         let ts : List (List ℕ) = paymentsIn (statements es) in
         let n : length ts ≤ dataLimit / 4 * length es =
-        payments-room es (all-keep-by (λ e. good dataLimit (e .says .nodeData) ≡ true) marks (take i t) (all-take (λ e. good dataLimit (e .says .nodeData) ≡ true) i t g)) in
+        payments-good es (all-keep-by (λ e. good dataLimit (e .says .nodeData) ≡ true) marks (take i t) (all-take (λ e. good dataLimit (e .says .nodeData) ≡ true) i t g)) in
         let f : length es ≤ i = omega (arith, keep-by-length marks (take i t), length-take i t) in
         let v : r .value ≡ tally (picked w) ts = tallied w (statements es) r s .value ∙ sum-for w (statements es) in
         record {
@@ -242,15 +229,14 @@ module _ (w : Whose) (marks : List Bool) (t : List Entry) where
 -- ---- as the code goes over its table: row by row, each with its data in the table memory
 
 module _ (t : Table) (m : List ℕ) (k : Kept t m) where
-  row-inside : (i : ℕ) → i < t .count → i < length (view t m)
+  pub row-inside : (i : ℕ) → i < t .count → i < length (view t m)
   row-inside i p = rw (view-length t (k .rows) m) p
 
-  row-says : (i : ℕ) → i < t .count → (d : List ℕ) → d ≡ dataOf m (rowAt t i) → d ≡ getD (view t m) i (seen m blank) .says .nodeData
+  pub row-says : (i : ℕ) → i < t .count → (d : List ℕ) → d ≡ dataOf m (rowAt t i) → d ≡ getD (view t m) i (seen m blank) .says .nodeData
   row-says i p d e = e ∙ ap (λ (x : Entry). x .says .nodeData) (sym (view-at t (k .rows) m i p))
 
   pub row-good : AllGood (view t m) → (i : ℕ) → i < t .count → (d : List ℕ) → d ≡ dataOf m (rowAt t i) → good dataLimit d ≡ true
-  row-good g i p d e =
-      rw (row-says i p d e) (all-at (λ (x : Entry). good dataLimit (x .says .nodeData) ≡ true) (seen m blank) (view t m) i g (row-inside i p))
+  row-good g i p d e = rw e (view-each t (k .rows) (λ x. good dataLimit (x .says .nodeData) ≡ true) m i g p)
 
   module _ (w : Whose) (marks : List Bool) (r : Total) (i : ℕ) (s : AddedBelow w marks (view t m) r i) where
     pub rows-room : AllGood (view t m) → i < t .count → Room mostPayments r

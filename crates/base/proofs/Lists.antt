@@ -7,7 +7,7 @@ use Prim.Native.Nat.{ℕ, zero, suc, _+_, _-_, _≤_, _<_}
 use native.Mathlib.Omega.{arith}
 use native.Mathlib.Numerals.{add-one}
 use lib.ListN.{length, getD, take, drop, set, length-drop, drop-of-length-le}
-use lib.Seq.{drop-cons, take-take, take-nil, take-all, take-suc, length-take-le, set-at, append-snoc}
+use lib.Seq.{drop-cons, drop-drop, take-take, take-nil, take-all, take-suc, length-take-le, set-at, append-snoc}
 use Rattle.base.specs.Lists.{any, keep, keepBy, joinAll, In, All}
 use Rattle.base.proofs.Tests.{no-way, by-test, or-left, or-right}
 
@@ -32,6 +32,13 @@ part-is s a e n q = let p : e - a ≡ n = omega arith in rw p
 -- the part from place n on
 pub rest-is : (s : List ℕ) (n : ℕ) → take (length s - n) (drop n s) ≡ drop n s
 rest-is s n = take-all (length s - n) (drop n s) (omega (arith, length-drop n s))
+
+-- what is the same from one place on is the same from any later place on
+pub drop-later : (s t : List ℕ) (a b : ℕ) → a ≤ b → drop a t ≡ drop a s → drop b t ≡ drop b s
+drop-later s t a b p e = sym (from t) ∙ ap (drop (b - a)) e ∙ from s
+  where
+    from : (z : List ℕ) → drop (b - a) (drop a z) ≡ drop b z
+    from z = let q : a + (b - a) ≡ b = omega arith in drop-drop (b - a) a z ∙ rw q
 
 -- a loop that makes l into p, front to back: one more store, and all of them
 pub fill-step : {A : Type 0} (p l : List A) (j : ℕ) (d : A) → j < length p → j < length l

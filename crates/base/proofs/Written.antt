@@ -206,11 +206,20 @@ module _ (m : List ℕ) (at len p : ℕ) (h : at + len ≤ length m) where
           let f : at + (p + n) ≡ at + p + n = omega arith in
           rw (e, part-front (omega arith), part-rest (p + n) (len - p - n) (omega arith), f) (simp append-assoc)
 
+-- bytes written at place a: what stands up to their end, and what stays
+module _ (m m′ d : List ℕ) (a : ℕ) (e : m′ ≡ written m a d) (h : a + length d ≤ length m) where
+  pub written-taken : take (a + length d) m′ ≡ take a m ++ d
+  written-taken =
+      rw (e, ← append-assoc (take a m) d (drop (a + length d) m))
+      (take-at (take a m ++ d) (drop (a + length d) m) (a + length d) (simp (length-append, length-take) (omega arith)))
+
+  pub written-left : drop (a + length d) m′ ≡ drop (a + length d) m
+  written-left = rw e (written-above m d a h (a + length d) (omega arith))
+
 -- written behind what was written
 pub written-append : (m x y : List ℕ) (a : ℕ) → a + length x + length y ≤ length m → written (written m a x) (a + length x) y ≡ written m a (x ++ y)
 written-append m x y a h =
-    let l : length (take a m ++ x) ≡ a + length x = simp (length-append, length-take) (omega arith) in
-    let f : take (a + length x) (written m a x) ≡ take a m ++ x = ap (take (a + length x)) (sym (append-assoc (take a m) x (drop (a + length x) m))) ∙ take-at (take a m ++ x) (drop (a + length x) m) (a + length x) l in
+    let f : take (a + length x) (written m a x) ≡ take a m ++ x = written-taken m (written m a x) x a refl (omega arith) in
     let g : drop (a + length x + length y) (written m a x) ≡ drop (a + length x + length y) m = written-above m x a (omega arith) (a + length x + length y) (omega arith) in
     let n : a + length (x ++ y) ≡ a + length x + length y = simp length-append (omega arith) in
     rw (f, g, n) (simp append-assoc)

@@ -4,7 +4,7 @@ use mathlib.Core.Bool.{Bool, false}
 use mathlib.Core.List.{List}
 use Prim.Native.Nat.{ℕ, _≤_}
 use native.Mathlib.Omega.{arith}
-use lib.ListN.{length, take}
+use lib.ListN.{length}
 use Rattle.base.specs.Lists.{any}
 use Rattle.base.specs.Bytes.{Bytes}
 use Rattle.base.proofs.Tests.{no-way}

@@ -2,41 +2,34 @@
 use mathlib.Core.Path.{_≡_, sym, ap, _∙_}
 use mathlib.Core.Bool.{Bool, true, false, not}
 use mathlib.Core.List.{List}
-use Prim.Native.Nat.{ℕ, _+_, _≤_, _<_}
+use Prim.Native.Nat.{ℕ, _≤_, _<_}
 use native.Mathlib.Omega.{arith}
 use lib.ListN.{length, drop, length-drop}
 use lib.Dec.{eqb}
 use borrow.Author.Tests.{eq-eqb, ne-eqb, le-leb, lt-leb}
 use Rattle.base.specs.Lists.{any}
 use Rattle.base.specs.Bytes.{u32At}
-use Rattle.base.proofs.Bytes.{u32-part}
-use Rattle.base.proofs.Written.{part-length}
 use Rattle.wire.specs.Row.{valueOf, tlvs}
 use Rattle.wire.specs.Answers.{Tells}
 use Rattle.wire.specs.declared.row.Header.{Header}
-use Rattle.wire.proofs.Rows.{tlvs-end}
+use Rattle.wire.proofs.Rows.{tlvs-end, value-length, value-first}
 use Rattle.model.specs.Receive.{aboutOther}
 use Rattle.reach.specs.Marks.{tlvOf}
 
 -- ---- one TLV
 
 module _ (s : List ℕ) (at : ℕ) (h : Header) (k : Tells s at h) (own : ℕ) where
-  value-length : length (valueOf (tlvOf s at h)) ≡ h .len
-  value-length = ap length (k .value) ∙ part-length s (h .start) (h .len) (omega (arith, k .inside, k .within))
-
   pub other-kind : ¬ (h .kind ≡ 5) → aboutOther own (tlvOf s at h) ≡ false
   other-kind n = rw (sym (k .kind), ne-eqb (h .kind) 5 n)
 
   pub too-short : h .kind ≡ 5 → h .len < 28 → aboutOther own (tlvOf s at h) ≡ false
-  too-short e l = rw (sym (k .kind), eq-eqb (h .kind) 5 e, value-length, lt-leb 28 (h .len) l)
+  too-short e l = rw (sym (k .kind), eq-eqb (h .kind) 5 e, value-length s at h k, lt-leb 28 (h .len) l)
 
   -- the node that the code reads decides
   pub long-state : h .kind ≡ 5 → 28 ≤ h .len → (n : ℕ) → n ≡ u32At s (h .start) → aboutOther own (tlvOf s at h) ≡ not (eqb n own)
   long-state e l n q =
-      let z : h .start + 0 ≡ h .start = omega arith in
-      let y : u32At (valueOf (tlvOf s at h)) 0 ≡ u32At s (h .start + 0) = rw (k .value) (u32-part s (h .len) (h .start) 0 (omega arith)) in
-      let x : u32At s (h .start + 0) ≡ n = rw z (sym q) in
-      rw (sym (k .kind), eq-eqb (h .kind) 5 e, value-length, le-leb 28 (h .len) l) (ap (λ (i : ℕ). not (eqb i own)) (y ∙ x))
+      let r : u32At (valueOf (tlvOf s at h)) 0 ≡ n = value-first s at h k (omega arith) ∙ sym q in
+      rw (sym (k .kind), eq-eqb (h .kind) 5 e, value-length s at h k, le-leb 28 (h .len) l) (ap (λ (i : ℕ). not (eqb i own)) r)
 
 -- ---- the search
 

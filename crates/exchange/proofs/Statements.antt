@@ -17,7 +17,7 @@ use Rattle.model.specs.State.{State as ModelState, withTable, ownEntry, ownData
 use Rattle.model.specs.Messages.{requestNodeTlv}
 use Rattle.model.specs.Decide.{Decision as ModelDecision, receivedOf, differs, decide}
 use Rattle.model.specs.Handle.{Work as ModelWork, withState, reply, onOwnState, carryOut, onState}
-use Rattle.model.proofs.Cases.{own-reclaimed, own-agrees, state-own, state-other, carry-ignored, carry-ask, carry-number, carry-all, carry-dropped}
+use Rattle.model.proofs.Cases.{received-node, received-seq, received-hash, own-reclaimed, own-agrees, state-own, state-other, carry-ignored, carry-ask, carry-number, carry-all, carry-dropped}
 use Rattle.table.specs.declared.Table.{Table}
 use Rattle.table.specs.declared.Entry.{Entry as Row}
 use Rattle.table.specs.View.{view, seen, dataOf, rowAt, Read, Stands, Stored, Renumbered}
@@ -28,7 +28,7 @@ use Rattle.node.proofs.Parts.{state-held, putTable as tablePut}
 use Rattle.node.proofs.Own.{own-entry}
 use Rattle.node.proofs.Moves.{stored-moved, renumbered-moved}
 use Rattle.decide.specs.declared.Decision.{Decision as Answer}
-use Rattle.decide.specs.declared.Decision.the-variants.{Ignored, Ask, TakeNumber, Replace, Insert, Dropped}
+use Rattle.decide.specs.declared.Decision.the-variants.{Ignored, Ask, Dropped}
 use Rattle.decide.specs.Decided.{decisionOf, Acts, Fine, Taken}
 use Rattle.reply.specs.declared.Context.{Context}
 use Rattle.reply.specs.declared.Work.{Work}
@@ -52,19 +52,6 @@ bytes-at (suc k) i s h =
 -- the digest, byte by byte
 pub hash-read : (v : List ℕ) → 28 ≤ length v → bytesAt 16 12 v ≡ take 16 (drop 12 v)
 hash-read v h = bytes-at 16 12 v h
-
--- node, number and digest stand at bytes 0, 4 and 12
-pub received-node : (v : List ℕ) → receivedOf v .node ≡ u32At v 0
-unfolding receivedOf
-received-node v = refl
-
-pub received-seq : (v : List ℕ) → receivedOf v .seq ≡ u32At v 4
-unfolding receivedOf
-received-seq v = refl
-
-pub received-hash : (v : List ℕ) → receivedOf v .hash ≡ take 16 (drop 12 v)
-unfolding receivedOf
-received-hash v = refl
 
 -- what is taken is short, and its digest the one received: as the table asks of data that are the rest of the value
 pub fine-rest : (v : List ℕ) → Fine v → (h : List ℕ) → h ≡ take 16 (drop 12 v)
@@ -161,19 +148,10 @@ module _ (c : Context) (w : Work) (m r v : List ℕ) (d : Answer) where
   ask-carried n e u r′ k =
       carried-as (Ask n) e u m r′ (stepped-to k (carryOut (contextOf c) (ModelDecision.ask n)) (sym (carry-ask (contextOf c) (workOf w m r) n)))
 
-  module _ (i n s a : ℕ) (u : Work) (m′ : List ℕ) where
-    -- number only, or all of it, for a node held or a new one
-    pub number-carried : d ≡ TakeNumber i n s a
-        → Stepped c 0 (carryOut (contextOf c) (ModelDecision.takeNumber (entryOf n s (dataOf m (rowAt (w .state .table) i)) a (c .clock)))) w m r u m′ r → Carried d u m′ r
-    number-carried e k = carried-as (TakeNumber i n s a) e u m′ r (stepped-more k 1 (omega arith))
-
-    pub replace-carried : d ≡ Replace i n s a
-        → Stepped c 0 (carryOut (contextOf c) (ModelDecision.takeAll (entryOf n s (drop 28 v) a (c .clock)))) w m r u m′ r → Carried d u m′ r
-    replace-carried e k = carried-as (Replace i n s a) e u m′ r (stepped-more k 1 (omega arith))
-
-    pub insert-carried : d ≡ Insert i n s a
-        → Stepped c 0 (carryOut (contextOf c) (ModelDecision.takeAll (entryOf n s (drop 28 v) a (c .clock)))) w m r u m′ r → Carried d u m′ r
-    insert-carried e k = carried-as (Insert i n s a) e u m′ r (stepped-more k 1 (omega arith))
+  -- number only, or all of it, for a node held or a new one
+  pub taken-carried : (x : Answer) → d ≡ x → (u : Work) (m′ : List ℕ)
+      → Stepped c 0 (carryOut (contextOf c) (decisionOf (c .clock) (w .state .table) m v x)) w m r u m′ r → Carried d u m′ r
+  taken-carried x e u m′ k = carried-as x e u m′ r (stepped-more k 1 (omega arith))
 
   -- no room for it
   pub drop-carried : d ≡ Dropped → Sound (c .clock) w m r → Carried d (putDropped (w .dropped + 1) w) m r

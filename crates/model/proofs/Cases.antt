@@ -6,7 +6,7 @@ use mathlib.Core.List.{List, [], _∷_, _++_, map}
 use mathlib.Core.Option.{none, some}
 use Prim.Native.Nat.{ℕ, pred, _+_, _*_, _≤_, _<_, min}
 use native.Mathlib.Nat.{zero-add}
-use lib.ListN.{length, take, getD, length-append}
+use lib.ListN.{length, take, drop, getD, length-append}
 use lib.Dec.{ltb, leb}
 use borrow.Author.Tests.{eq-eqb, ne-eqb, le-leb, lt-leb, le-ltb, lt-ltb}
 use Rattle.base.specs.Lists.{keep}
@@ -289,6 +289,21 @@ module _ (c : Call) (s : State) where
   pub receive-refused : ¬ (refusalReceive c s ≡ 0) → receive c s ≡ record { number = refusalReceive c s; state = s; bytes = []; omitted = 0; dropped = 0 }
   unfolding receive
   receive-refused n = rw (ne-eqb (refusalReceive c s) 0 n)
+
+-- ---- a received Node State: node, number and digest stand at bytes 0, 4 and 12
+
+module _ (v : List ℕ) where
+  pub received-node : receivedOf v .node ≡ u32At v 0
+  unfolding receivedOf
+  received-node = refl
+
+  pub received-seq : receivedOf v .seq ≡ u32At v 4
+  unfolding receivedOf
+  received-seq = refl
+
+  pub received-hash : receivedOf v .hash ≡ take 16 (drop 12 v)
+  unfolding receivedOf
+  received-hash = refl
 
 -- ---- Trickle: the send point is due, the interval is over, or nothing is due
 

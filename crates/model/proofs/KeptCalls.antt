@@ -127,14 +127,20 @@ module _ (now : ℕ) (bytes rs : List ℕ) (table : ℕ) (s : State) where
 
 -- ---- paying
 
+-- our data with the payment, published under the number after ours
+module _ (now : ℕ) (p : Payment) (s : State) where
+  pub published-midway : Midway now s → among (paymentTlv p) (tlvs (ownData s)) ≡ false → length (ownData s) + length (paymentTlv p) ≤ dataLimit
+      → Midway now (publish now (withTlv (paymentTlv p) (ownData s)) s)
+  unfolding publishAs
+  published-midway m n room =
+      let g : good dataLimit (ownData s) ≡ true = midway-own s m .fine in
+      publish-kept (advance (ownSeq s) 1) (withTlv (paymentTlv p) (ownData s)) (s .peers) s m (advance-fits (ownSeq s) 1)
+      (paid-good p (ownData s) (s .peers) (m .links) g n room) (m .peers) (paid-linked p (ownData s) (s .peers) (m .links) g n room)
+
 module _ (now : ℕ) (p : Payment) (rs : List ℕ) (s : State) where
   pub paid-valid : Midway now s → among (paymentTlv p) (tlvs (ownData s)) ≡ false → length (ownData s) + length (paymentTlv p) ≤ dataLimit → now ≤ lastReading → Valid (paid now p rs s)
-  unfolding paid publishAs
-  paid-valid m n room l =
-      let g : good dataLimit (ownData s) ≡ true = midway-own s m .fine in
-      settle-valid now rs (publish now (withTlv (paymentTlv p) (ownData s)) s)
-      (publish-kept (advance (ownSeq s) 1) (withTlv (paymentTlv p) (ownData s)) (s .peers) s m (advance-fits (ownSeq s) 1)
-      (paid-good p (ownData s) (s .peers) (m .links) g n room) (m .peers) (paid-linked p (ownData s) (s .peers) (m .links) g n room)) l
+  unfolding paid
+  paid-valid m n room l = settle-valid now rs (publish now (withTlv (paymentTlv p) (ownData s)) s) (published-midway now p s m n room) l
 
   pub paid-own : paid now p rs s .own ≡ s .own
   unfolding paid publishAs settle

@@ -12,10 +12,11 @@ use Rattle.model.specs.Figures.{dataLimit, refreshAge, mostBytes, lastRe
 use Rattle.model.specs.Sequence.{advance}
 use Rattle.model.specs.Table.{ageAt}
 use Rattle.model.specs.Trickle.{event}
-use Rattle.model.specs.State.{State, Peer, withPeers, endpointAt, withTrickle, ownEntry, ownSeq, ownData, publishAs, publish, settle}
+use Rattle.model.specs.State.{State, Peer, withPeers, endpointAt, withTrickle, ownEntry, ownSeq, ownData, publish, settle}
 use Rattle.model.specs.Refusals.{Row, late, back, noSuchEndpoint, smallRoom}
 use Rattle.model.specs.Tick.{goes, withoutPeers, someOf, dropSilent, Sent, withEvent, ticked, refusalTick, tick}
 use Rattle.model.specs.Invariant.{EndpointFits, Valid, Midway}
+use Rattle.model.proofs.Cases.{silent-own}
 use Rattle.model.proofs.KeptParts.{none-applies, not-late, not-back, one-to-four, valid-midway, midway-own, publish-kept, advance-fits, endpoint-fits, endpoint-kept, event-fits, with-trickle, settle-midway}
 use Rattle.base.proofs.Options.{by-cond}
 use Rattle.model.proofs.KeptData.{peers-keep, gone-good, gone-linked}
@@ -40,11 +41,6 @@ module _ (now i : ℕ) (s : State) where
   unfolding dropSilent
   silent-kept m =
       by-cond (Midway now) (someOf gone || leb refreshAge (ageAt now (ownEntry s))) (withPeers left (publish now (withoutPeers gone (ownData s)) s)) s (λ b. drop-kept m) (λ b. m)
-
-  pub silent-own : dropSilent now i s .own ≡ s .own
-  unfolding dropSilent publishAs
-  silent-own =
-      by-cond (λ (r : State). r .own ≡ s .own) (someOf gone || leb refreshAge (ageAt now (ownEntry s))) (withPeers left (publish now (withoutPeers gone (ownData s)) s)) s (λ b. refl) (λ b. refl)
 
 -- the endpoint's event
 event-kept : (now i random : ℕ) (s : State) → 1 ≤ i → i ≤ 4 → Midway now s → Midway now (withEvent i s (event now random (endpointAt i s .trickle)) .state)

@@ -32,7 +32,7 @@ use Rattle.model.specs.State.{State}
 use Rattle.model.specs.Invariant.{EntryFits, Valid}
 use Rattle.model.specs.Totals.{isPayment, paymentsIn, readable, unreadable, amounts, totalOf, sumOf, reachable, total, sum}
 use Rattle.base.proofs.Options.{by-option}
-use Rattle.base.proofs.Lists.{map-append, join-append, keep-append, all-keep, all-take, keep-few, map-same}
+use Rattle.base.proofs.Lists.{map-append, join-append, keep-append, all-keep, all-more, all-take, keep-few, map-same}
 use Rattle.model.specs.Theorems.{upFrom, amountFor, unreadableOne, sumℕ, TotalsAddUp}
 
 -- ---- the payment TLVs, node by node and TLV by TLV
@@ -289,11 +289,15 @@ mostTlvs = dataLimit / 4
 pub payments-few : (d : List ℕ) → good dataLimit d ≡ true → length (paymentsOf d) ≤ mostTlvs
 payments-few d g = omega (arith, keep-few isPayment (tlvs d), tlvs-few d (good-row dataLimit d g), good-fits dataLimit d g)
 
-pub payments-room : (last : ℕ) (t : List Entry) → All (EntryFits last) t → length (paymentsIn (statements t)) ≤ mostTlvs * length t
+-- nodes with good data
+pub payments-good : (t : List Entry) → All (λ e. good dataLimit (e .says .nodeData) ≡ true) t → length (paymentsIn (statements t)) ≤ mostTlvs * length t
 unfolding paymentsIn
-payments-room last [] h = omega arith
-payments-room last (e ∷ t) h =
-    omega (arith, length-append (paymentsOf (e .says .nodeData)) (paymentsIn (statements t)), payments-few (e .says .nodeData) (h .0 .fine), payments-room last t (h .1))
+payments-good [] h = omega arith
+payments-good (e ∷ t) h =
+    omega (arith, length-append (paymentsOf (e .says .nodeData)) (paymentsIn (statements t)), payments-few (e .says .nodeData) (h .0), payments-good t (h .1))
+
+pub payments-room : (last : ℕ) (t : List Entry) → All (EntryFits last) t → length (paymentsIn (statements t)) ≤ mostTlvs * length t
+payments-room last t h = payments-good t (all-more (EntryFits last) (λ e. good dataLimit (e .says .nodeData) ≡ true) (λ e f. f .fine) t h)
 
 -- a loop over the entries t, of which m tells the reachable ones: the payments of the first i
 abbrev pub soFar : (Entry → Bool) → List Entry → ℕ → List (List ℕ)
@@ -412,7 +416,8 @@ unreadable-each (t ∷ ts) =
     (λ b. rw b (by-option (readPayment (valueOf t)) (λ e. rw e (omega arith)) (λ p e. rw e (omega arith))))
     (λ b. rw b (omega arith))
 
-payments-node : (s : Statement) → paymentsIn (s ∷ []) ≡ paymentsOf (s .nodeData)
+-- one node's payments
+pub payments-node : (s : Statement) → paymentsIn (s ∷ []) ≡ paymentsOf (s .nodeData)
 unfolding paymentsIn
 payments-node s = append-nil (paymentsOf (s .nodeData))
 

@@ -23,9 +23,10 @@ use Rattle.model.specs.Table.{Entry, idOf, entryOf, look, put}
 use Rattle.model.specs.State.{State, Endpoint, endpointAt, withNext, noEndpoint}
 use Rattle.model.specs.Messages.{requestNetworkTlv}
 use Rattle.model.specs.Decide.{Received, Decision, carriedIn, receivedOf, withData, withoutData, wantedNew, wantedHeld, differs, decide}
-use Rattle.model.specs.Handle.{Context, Work, piece, fits, mayAsk, hasAsked, reply, askNetwork, touch, digestNow, onNetwork, onTlv, oneTlv, allTlvs}
+use Rattle.model.specs.Handle.{Context, Work, piece, fits, mayAsk, hasAsked, askNetwork, touch, digestNow, onNetwork, onTlv, oneTlv, allTlvs}
 use Rattle.model.proofs.Cases.{reply-fits, reply-full, ask-held, greet-full, carry-dropped, touch-none, touch-some, network-others, network-ask, on-network, on-network-short, one-tlv-unicast, one-tlv-multicast, receive-accepted}
 use Rattle.model.proofs.Refusals.{refusals-exact}
+use Rattle.model.proofs.KeptSteps.{reply-state}
 use Rattle.model.specs.Theorems.{EachAtItsTurn, CountsExact, EmptyTaken, ForeignDigestResetsNothing, trickles}
 
 -- ---- each TLV at its turn
@@ -138,11 +139,6 @@ empty-taken = record { taken = short-taken; again = short-again }
         same-ignored later (put e t) (receivedOf v) e (find-inserted idOf e t) refl (rw (h, same-self))
 
 -- ---- a foreign digest
-
--- a reply leaves the state
-reply-state : (c : Context) (t : List ℕ) (w : Work) → reply c t w .state ≡ w .state
-unfolding reply
-reply-state c t w = by-test (fits c t w) (λ e. rw e) (λ e. rw e)
 
 -- asking leaves every Trickle state: it sets only from when the next request may go out
 asked-trickles : (c : Context) (s : State) → trickles (hasAsked c s) ≡ trickles s

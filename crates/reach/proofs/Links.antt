@@ -10,14 +10,12 @@ use borrow.Author.Tests.{eq-eqb, ne-eqb, le-leb, lt-leb, leb-true}
 use Rattle.base.specs.Lists.{any}
 use Rattle.base.specs.Bytes.{u32At}
 use Rattle.base.proofs.Tests.{by-test, and-left, and-right, and-no}
-use Rattle.base.proofs.Written.{part-length}
 use Rattle.wire.specs.Row.{typeOf, valueOf, tlvs}
 use Rattle.wire.specs.Answers.{Tells}
 use Rattle.wire.specs.declared.row.Header.{Header}
-use Rattle.wire.proofs.Rows.{tlvs-end}
+use Rattle.wire.proofs.Rows.{tlvs-end, value-length, value-number, value-first}
 use Rattle.model.specs.Reach.{Link as ModelLink, linkOf, isPeerTlv, links, matches, joined}
 use Rattle.reach.specs.declared.link.Link.{Link}
-use Rattle.base.proofs.Bytes.{u32-part}
 use Rattle.base.proofs.Lists.{any-kept, any-same, any-never}
 use Rattle.reach.specs.Marks.{tlvOf, linkIn, joins}
 
@@ -25,30 +23,26 @@ use Rattle.reach.specs.Marks.{tlvOf, linkIn, joins}
 
 -- whether it is a Peer TLV, as the code tests it
 module _ (s : List ℕ) (at : ℕ) (h : Header) (k : Tells s at h) where
-  value-length : length (valueOf (tlvOf s at h)) ≡ h .len
-  value-length = ap length (k .value) ∙ part-length s (h .start) (h .len) (omega (arith, k .inside, k .within))
-
   pub other-kind : ¬ (h .kind ≡ 8) → isPeerTlv (tlvOf s at h) ≡ false
   other-kind n = rw (sym (k .kind), ne-eqb (h .kind) 8 n)
 
   pub too-short : h .len < 12 → isPeerTlv (tlvOf s at h) ≡ false
-  too-short l = and-no (eqb (typeOf (tlvOf s at h)) 8) _ (rw (value-length, lt-leb 12 (h .len) l))
+  too-short l = and-no (eqb (typeOf (tlvOf s at h)) 8) _ (rw (value-length s at h k, lt-leb 12 (h .len) l))
 
   pub peer-tlv : h .kind ≡ 8 → 12 ≤ h .len → isPeerTlv (tlvOf s at h) ≡ true
-  peer-tlv e l = rw (sym (k .kind), eq-eqb (h .kind) 8 e, value-length) (le-leb 12 (h .len) l)
+  peer-tlv e l = rw (sym (k .kind), eq-eqb (h .kind) 8 e, value-length s at h k) (le-leb 12 (h .len) l)
 
   pub long-enough : (n : ℕ) {b : Bool} → b ≡ isPeerTlv (tlvOf s at h) && eqb (linkOf (valueOf (tlvOf s at h)) .peer) n → b ≡ true → 12 ≤ h .len
   long-enough n e t =
       let q : isPeerTlv (tlvOf s at h) ≡ true = and-left _ _ (sym e ∙ t) in
-      rw value-length at (leb-true 12 (length (valueOf (tlvOf s at h))) (and-right (eqb (typeOf (tlvOf s at h)) 8) _ q))
+      rw (value-length s at h k) at (leb-true 12 (length (valueOf (tlvOf s at h))) (and-right (eqb (typeOf (tlvOf s at h)) 8) _ q))
 
   -- what the code reads is the link of the definition
   pub link-read : (l : Link) → 12 ≤ h .len → l .peer ≡ u32At s (h .start) → l .peerend ≡ u32At s (h .start + 4) → l .ownend ≡ u32At s (h .start + 8) → linkIn l ≡ linkOf (valueOf (tlvOf s at h))
   link-read l p a b c =
-      let e : h .start + 0 ≡ h .start = omega arith in
-      let x : u32At (valueOf (tlvOf s at h)) 0 ≡ l .peer = rw (k .value) (u32-part s (h .len) (h .start) 0 (omega arith) ∙ rw e (sym a)) in
-      let y : u32At (valueOf (tlvOf s at h)) 4 ≡ l .peerend = rw (k .value) (u32-part s (h .len) (h .start) 4 (omega arith) ∙ sym b) in
-      let z : u32At (valueOf (tlvOf s at h)) 8 ≡ l .ownend = rw (k .value) (u32-part s (h .len) (h .start) 8 (omega arith) ∙ sym c) in
+      let x : u32At (valueOf (tlvOf s at h)) 0 ≡ l .peer = value-first s at h k (omega arith) ∙ sym a in
+      let y : u32At (valueOf (tlvOf s at h)) 4 ≡ l .peerend = value-number s at h k 4 (omega arith) ∙ sym b in
+      let z : u32At (valueOf (tlvOf s at h)) 8 ≡ l .ownend = value-number s at h k 8 (omega arith) ∙ sym c in
       cc
 
 -- ---- two links

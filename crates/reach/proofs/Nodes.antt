@@ -1,5 +1,5 @@
 -- The nodes at the places of the table as the marking sees them. Assumes nothing.
-use mathlib.Core.Path.{_≡_, refl, sym, ap, _∙_, subst}
+use mathlib.Core.Path.{_≡_, refl, sym, ap, _∙_}
 use mathlib.Core.Bool.{Bool, true, false, _&&_, _||_, and-false}
 use mathlib.Core.List.{List, [], _∷_}
 use Prim.Native.Nat.{ℕ, zero, suc, _+_, _-_, _≤_, _<_}
@@ -9,22 +9,25 @@ use lib.ListN.{length, getD, drop, length-map}
 use borrow.Author.Tests.{lt-ltb, le-ltb}
 use Rattle.base.specs.Lists.{keepBy}
 use Rattle.base.proofs.Tests.{by-test}
-use Rattle.base.proofs.Places.{all-at}
 use Rattle.wire.specs.Row.{isRow}
 use Rattle.wire.specs.Order.{good}
 use Rattle.wire.proofs.Good.{good-row}
 use Rattle.model.specs.Figures.{mostNodes, dataLimit, tableBytes, ageLimit, mostAge, lastReading}
 use Rattle.model.specs.Table.{Entry, Statement, underAge}
 use Rattle.model.specs.Reach.{Vertex, vertices, joined, touched}
-use Rattle.model.specs.Invariant.{EntryFits}
+use Rattle.model.specs.Invariant.{EntryFits, TableFits}
 use Rattle.table.specs.declared.Table.{Table}
 use Rattle.table.specs.declared.Entry.{Entry as Row}
-use Rattle.table.specs.View.{blank, rowAt, dataOf, seen, view, FitRow, Rows, Read}
-use Rattle.table.proofs.Rows.{view-length, view-at}
+use Rattle.table.specs.View.{blank, rowAt, dataOf, seen, view, FitRow, Rows, Kept, Read}
+use Rattle.table.proofs.Rows.{view-length, view-at, view-each}
 use Rattle.base.proofs.Marks.{keep-by-end, keep-by-next}
 use Rattle.reach.specs.Marks.{joins, Readable, noVertex, Leads}
 use Rattle.reach.specs.Parts.{Front}
 use Rattle.reach.proofs.Fronts.{joins-front}
+
+-- a table that fits may be marked
+pub fits-readable : (own now : ℕ) (t : Table) (m : List ℕ) → Kept t m → TableFits own now (view t m) → now ≤ lastReading → Readable now t m
+fits-readable own now t m k f l = record { kept = k; entries = f .entries; clock = l }
 
 -- ---- a node
 
@@ -56,7 +59,7 @@ module _ (clock : ℕ) (t : Table) (m : List ℕ) (g : Readable clock t m) where
     node-at = vertex-at clock (view t m) i (seen m blank) inside ∙ ap (vertexOf clock) seen-at
 
     fits-at : EntryFits clock (seen m (rowAt t i))
-    fits-at = subst (EntryFits clock) seen-at (all-at (EntryFits clock) (seen m blank) (view t m) i (g .entries) inside)
+    fits-at = view-each t (g .kept .rows) (EntryFits clock) m i (g .entries) p
 
     -- what `age_at` asks of a row that was read
     pub age-fits : (e : Row) → Read t i e → (e .since ≤ clock) × ((e .age ≤ mostAge) × (clock ≤ lastReading))

@@ -20,6 +20,7 @@ use Rattle.table.specs.View.{blank, rowAt, seen, view, Rows, Stands, Gap}
 use Rattle.table.proofs.Rows.{look-stands, look-gap, view-length, view-at}
 use Rattle.reach.specs.Marks.{Readable, Marking}
 use Rattle.base.proofs.Marks.{keep-by-end, keep-by-next}
+use Rattle.reach.proofs.Nodes.{fits-readable}
 use Rattle.reach.proofs.Reaching.{reached-by}
 use Rattle.node.proofs.Parts.{state-own, state-table, state-held}
 use Rattle.reply.specs.declared.Context.{Context}
@@ -32,7 +33,7 @@ use Rattle.reply.proofs.Replies.{replied-state}
 
 module _ {c : Context} {w : Work} {m : List ℕ} (h : Markable c w m) where
   pub markable-readable : Readable (c .clock) (w .state .table) m
-  markable-readable = record { kept = h .rep .table; entries = rw (state-table (w .state) m) at (h .midway .table .entries); clock = h .clock }
+  markable-readable = fits-readable (w .state .own) (c .clock) (w .state .table) m (h .rep .table) (rw (state-own (w .state) m, state-table (w .state) m) at (h .midway .table)) (h .clock)
 
   pub markable-held : isSome (look (w .state .own) (view (w .state .table) m)) ≡ true
   markable-held = state-held (w .state) m (h .midway .table .held)

@@ -1,5 +1,4 @@
 -- The laws of steps on the work, of replies, and of the answers to requests.
-pub mod Basics
 pub mod Steps
 pub mod Replies
 pub mod States

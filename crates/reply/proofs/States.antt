@@ -8,15 +8,15 @@ use Rattle.base.specs.Bytes.{big16, big32}
 use Rattle.sha256.specs.Sha256.{hash16}
 use Rattle.sha256.proofs.Sizes.{hash16-length}
 use Rattle.wire.specs.Row.{padding, encode}
+use Rattle.wire.proofs.Good.{row-length}
 use Rattle.model.specs.Figures.{dataLimit, mostAge, lastReading}
 use Rattle.model.specs.Messages.{stateHead, shortState, wholeState}
 use Rattle.table.specs.declared.Table.{Table}
 use Rattle.table.specs.declared.Entry.{Entry as Row}
 use Rattle.table.specs.View.{rowAt, dataOf, seen, Read}
-use Rattle.table.proofs.Rows.{data-length}
+use Rattle.table.proofs.Rows.{data-length, row-hashed}
 use Rattle.reach.specs.Marks.{Readable}
 use Rattle.reach.proofs.Nodes.{age-fits, data-row}
-use Rattle.reply.proofs.Basics.{row-length, hash-at}
 
 -- header and head of the Node State of e, with n bytes of data
 abbrev frontOf : ℕ → Row → ℕ → List ℕ
@@ -37,13 +37,13 @@ module _ (clock : ℕ) (t : Table) (m : List ℕ) (g : Readable clock t m) (i : 
   pub front-fits : (n : ℕ) → n ≤ dataLimit → (e .since ≤ clock) × ((e .age ≤ mostAge) × ((clock ≤ lastReading) × ((n ≤ dataLimit) × (length (e .hash) ≡ 16))))
   front-fits n q =
       let f : (e .since ≤ clock) × ((e .age ≤ mostAge) × (clock ≤ lastReading)) = age-fits clock t m g i p e o in
-      (f .0, (f .1 .0, (f .1 .1, (q, rw (o .same, hash-at t m i (g .kept) p) (hash16-length (dataOf m (rowAt t i)))))))
+      (f .0, (f .1 .0, (f .1 .1, (q, rw (o .same, row-hashed t m i (g .kept) p) (hash16-length (dataOf m (rowAt t i)))))))
 
   -- what it gives is the Node State without data
   pub front-short : (x : List ℕ) → x ≡ frontOf clock e 0 → x ++ [] ≡ shortState clock (seen m (rowAt t i))
   front-short x q =
       ap (λ (z : List ℕ). z ++ []) (q ∙ ap (λ (r : Row). frontOf clock r 0) (o .same))
-      ∙ state-encoded clock m (rowAt t i) [] (hash-at t m i (g .kept) p) refl ∙ ap (encode 5) (append-nil (stateHead clock (seen m (rowAt t i))))
+      ∙ state-encoded clock m (rowAt t i) [] (row-hashed t m i (g .kept) p) refl ∙ ap (encode 5) (append-nil (stateHead clock (seen m (rowAt t i))))
 
   -- and before its data the one with data
   pub front-whole : (x d : List ℕ) → x ≡ frontOf clock e (e .len) → d ≡ dataOf m (rowAt t i) → x ++ d ≡ wholeState clock (seen m (rowAt t i))
@@ -52,7 +52,7 @@ module _ (clock : ℕ) (t : Table) (m : List ℕ) (g : Readable clock t m) (i : 
       let a : x ≡ frontOf clock (rowAt t i) (rowAt t i .len) = q ∙ ap (λ (r : Row). frontOf clock r (r .len)) (o .same) in
       let b : x ≡ frontOf clock (rowAt t i) (length (dataOf m (rowAt t i))) = a ∙ ap (frontOf clock (rowAt t i)) (sym l) in
       ap (λ (z : List ℕ). z ++ d) b ∙ ap (λ (z : List ℕ). frontOf clock (rowAt t i) (length (dataOf m (rowAt t i))) ++ z) k
-      ∙ state-encoded clock m (rowAt t i) (dataOf m (rowAt t i)) (hash-at t m i (g .kept) p) (row-length (dataOf m (rowAt t i)) (data-row clock t m g i p (dataOf m (rowAt t i)) refl))
+      ∙ state-encoded clock m (rowAt t i) (dataOf m (rowAt t i)) (row-hashed t m i (g .kept) p) (row-length (dataOf m (rowAt t i)) (data-row clock t m g i p (dataOf m (rowAt t i)) refl))
 
   -- both fit a reply
   pub front-room : (x d : List ℕ) (n : ℕ) → x ≡ frontOf clock e n → length d ≤ dataLimit → length x + length d ≤ 4000

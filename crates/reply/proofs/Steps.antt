@@ -10,7 +10,8 @@ use lib.ListN.{length, take}
 use lib.Seq.{length-take-le}
 use Rattle.base.specs.Memory.{written}
 use Rattle.base.proofs.Tests.{no-way}
-use Rattle.base.proofs.Written.{written-length}
+use Rattle.base.proofs.Lists.{drop-later}
+use Rattle.base.proofs.Written.{written-length, written-taken, written-left}
 use Rattle.model.specs.Figures.{mostBytes}
 use Rattle.model.specs.State.{State as ModelState}
 use Rattle.model.specs.Handle.{Work as ModelWork, withState, withSender, withOut, omitOne, dropOne, digestNow}
@@ -24,7 +25,6 @@ use Rattle.reply.specs.declared.Context.{Context}
 use Rattle.reply.specs.declared.Sender.{Sender}
 use Rattle.reply.specs.declared.Work.{Work}
 use Rattle.reply.specs.View.{contextOf, senderOf, workOf, Sound, Ready, Stepped, Markable, Refreshed}
-use Rattle.reply.proofs.Basics.{written-taken, written-left, drop-later}
 
 -- ---- the model's work by its parts
 

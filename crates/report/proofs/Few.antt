@@ -3,7 +3,7 @@ use mathlib.Core.Path.{_≡_, ap}
 use mathlib.Core.Bool.{true}
 use mathlib.Core.List.{List, [], _∷_}
 use mathlib.Core.Option.{Option, none, some}
-use Prim.Native.Nat.{ℕ, _*_, _/_, _≤_, _<_}
+use Prim.Native.Nat.{ℕ, _*_, _≤_, _<_}
 use native.Mathlib.Omega.{arith}
 use lib.ListN.{length, take, drop, length-append, length-take}
 use lib.Dec.{ltb, leb}
@@ -18,15 +18,8 @@ use Rattle.wire.proofs.Good.{Whole, Wholes, tlvs-whole, tlvs-joined, good-row, 
 use Rattle.model.specs.Figures.{dataLimit}
 use Rattle.model.specs.Table.{Entry, statements}
 use Rattle.model.specs.Totals.{isPayment, paymentsIn, readable}
-use Rattle.model.proofs.Totals.{paymentsOf, payments-few, readable-append}
+use Rattle.model.proofs.Totals.{paymentsOf, readable-append}
 use Rattle.accounts.specs.Tallied.{AllGood}
-
--- a node's good data hold 256 payments at most
-pub payments-room : (t : List Entry) → AllGood t → length (paymentsIn (statements t)) ≤ dataLimit / 4 * length t
-unfolding paymentsIn
-payments-room [] h = omega arith
-payments-room (e ∷ t) h =
-    omega (arith, length-append (paymentsOf (e .says .nodeData)) (paymentsIn (statements t)), payments-few (e .says .nodeData) (h .0), payments-room t (h .1))
 
 -- ---- a readable payment takes eight bytes at least
 

@@ -1,5 +1,5 @@
 -- The sums over the marked nodes of the table, node by node. Assumes nothing.
-use mathlib.Core.Path.{_≡_, sym, ap, _∙_}
+use mathlib.Core.Path.{_≡_, _∙_}
 use mathlib.Core.Bool.{Bool, true, false}
 use mathlib.Core.List.{List, [], _∷_}
 use Prim.Native.Nat.{ℕ, _+_, _*_, _/_, _≤_, _<_}
@@ -14,14 +14,14 @@ use Rattle.wire.specs.Order.{good}
 use Rattle.model.specs.Figures.{mostNodes, dataLimit}
 use Rattle.model.specs.Table.{Entry, statements}
 use Rattle.model.specs.Totals.{paymentsIn}
-use Rattle.model.proofs.Totals.{tally-mag, ofHousehold, total-is}
+use Rattle.model.proofs.Totals.{payments-good, tally-mag, ofHousehold, total-is}
 use Rattle.table.specs.declared.Table.{Table}
 use Rattle.table.specs.View.{blank, rowAt, dataOf, seen, view, Kept}
-use Rattle.table.proofs.Rows.{view-length, view-at}
+use Rattle.table.proofs.Rows.{view-length}
 use Rattle.accounts.specs.Tallied.{AllGood, alone, mostPayments}
 use Rattle.report.specs.Steps.{Small, Cleared, Summed, Totals}
 use Rattle.report.proofs.Adding.{totals-none, totals-then, summed-says}
-use Rattle.report.proofs.Few.{payments-room}
+use Rattle.accounts.proofs.Sums.{row-inside, row-says}
 
 -- the marked nodes below place i are summed
 abbrev pub Below : List Bool → List Entry → List ℤ → List Bool → ℕ → Type 0
@@ -37,7 +37,7 @@ module _ (marks : List Bool) (t : List Entry) (s : List ℤ) (b : List Bool) whe
     below-room g l =
         let es : List Entry = keepBy marks (take i t) in
         let n : length (paymentsIn (statements es)) ≤ dataLimit / 4 * length es =
-        payments-room es (all-keep-by (λ e. good dataLimit (e .says .nodeData) ≡ true) marks (take i t) (all-take (λ e. good dataLimit (e .says .nodeData) ≡ true) i t g)) in
+        payments-good es (all-keep-by (λ e. good dataLimit (e .says .nodeData) ≡ true) marks (take i t) (all-take (λ e. good dataLimit (e .says .nodeData) ≡ true) i t g)) in
         let f : length es ≤ i = omega (arith, keep-by-length marks (take i t), length-take i t) in
         record { each = λ h p. rw (d .sums h p ∙ total-is h (statements es)) (omega (arith, tally-mag (ofHousehold h) (paymentsIn (statements es)))) }
 
@@ -59,12 +59,6 @@ module _ (marks : List Bool) (t : List Entry) (s : List ℤ) (b : List Bool) whe
 -- ---- as the code goes over its table: row by row, each with its data in the table memory
 
 module _ (t : Table) (m : List ℕ) (k : Kept t m) where
-  row-inside : (i : ℕ) → i < t .count → i < length (view t m)
-  row-inside i p = rw (view-length t (k .rows) m) p
-
-  row-says : (i : ℕ) → i < t .count → (d : List ℕ) → d ≡ dataOf m (rowAt t i) → d ≡ getD (view t m) i (seen m blank) .says .nodeData
-  row-says i p d e = e ∙ ap (λ (x : Entry). x .says .nodeData) (sym (view-at t (k .rows) m i p))
-
   module _ (marks : List Bool) (s : List ℤ) (b : List Bool) where
     pub sums-start : Cleared s b → Below marks (view t m) s b 0
     sums-start c = below-start marks (view t m) s b c
@@ -74,11 +68,11 @@ module _ (t : Table) (m : List ℕ) (k : Kept t m) where
       sums-room g p = below-room marks (view t m) s b i d g (omega (arith, k .rows .most))
 
       pub sums-stay : i < t .count → getD marks i false ≡ false → Below marks (view t m) s b (i + 1)
-      sums-stay p q = below-stay marks (view t m) s b i d (seen m blank) (row-inside i p) q
+      sums-stay p q = below-stay marks (view t m) s b i d (seen m blank) (row-inside t m k i p) q
 
       pub sums-on : i < t .count → getD marks i false ≡ true → (n : List ℕ) → n ≡ dataOf m (rowAt t i) → (s′ : List ℤ) (b′ : List Bool)
           → Summed (alone n ∷ []) s b s′ b′ → Below marks (view t m) s′ b′ (i + 1)
-      sums-on p q n e s′ b′ u = below-on marks (view t m) s b i d (seen m blank) (row-inside i p) n s′ b′ q (row-says i p n e) u
+      sums-on p q n e s′ b′ u = below-on marks (view t m) s b i d (seen m blank) (row-inside t m k i p) n s′ b′ q (row-says t m k i p n e) u
 
       pub sums-end : t .count ≤ i → Totals (statements (keepBy marks (view t m))) s b
       sums-end l = below-end marks (view t m) s b i d (rw (view-length t (k .rows) m) l)

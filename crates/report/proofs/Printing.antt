@@ -23,7 +23,7 @@ use Rattle.model.specs.Table.{Entry, Statement, statements, look}
 use Rattle.model.specs.Snapshot.{load}
 use Rattle.model.specs.Invariant.{EntryFits, SnapshotFits}
 use Rattle.model.specs.Totals.{paymentsIn, readable, totalOf, sumOf}
-use Rattle.model.proofs.Totals.{tally-mag, ofHousehold, anyPayment, total-is, sum-is}
+use Rattle.model.proofs.Totals.{payments-good, tally-mag, ofHousehold, anyPayment, total-is, sum-is}
 use Rattle.model.proofs.Snapshots.{load-fits}
 use Rattle.table.specs.declared.Table.{Table}
 use Rattle.table.specs.View.{view, Kept}
@@ -39,7 +39,7 @@ use Rattle.report.specs.Steps.{Put, sumAt, markAt, paidIn, Totals, lines
 use Rattle.report.proofs.Digits.{decimal-short, signed-short}
 use Rattle.report.proofs.Lines.{lines-same, lines-short, payers-few}
 use Rattle.report.proofs.Puts.{put-then, first-fits, second-fits}
-use Rattle.report.proofs.Few.{payments-room, nodes-readable}
+use Rattle.report.proofs.Few.{nodes-readable}
 
 -- the lines of these nodes' households
 abbrev pub linesOf : List Statement → List ℕ
@@ -62,7 +62,7 @@ line-short h v l m = omega (arith, line-length (decimal h) v, decimal-short 3 h 
 
 module _ (es : List Entry) (g : AllGood es) (n : length es ≤ mostNodes) where
   all-few : length (paymentsIn (statements es)) ≤ 8192
-  all-few = omega (arith, payments-room es g)
+  all-few = omega (arith, payments-good es g)
 
   total-small : (h : ℕ) → mag (totalOf h (statements es)) + 1 < 10 ^ 14
   total-small h = rw (total-is h (statements es)) (omega (arith, all-few, tally-mag (ofHousehold h) (paymentsIn (statements es))))

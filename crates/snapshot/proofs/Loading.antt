@@ -5,20 +5,19 @@ use mathlib.Core.List.{List, [], _∷_, _++_}
 use mathlib.Core.Option.{Option, none, some}
 use Prim.Native.Nat.{ℕ, _+_, _-_, _≤_, _<_}
 use native.Mathlib.Omega.{arith}
-use lib.ListN.{length, take, drop, getD, length-drop, length-append}
+use lib.ListN.{length, take, drop, length-drop, length-append}
 use Rattle.base.specs.Lists.{orElse, isSome, All}
 use Rattle.base.specs.Sorted.{find}
 use Rattle.base.proofs.Tests.{no-way, by-order}
 use Rattle.base.proofs.Lists.{all-more}
-use Rattle.base.proofs.Places.{all-at}
 use Rattle.base.proofs.Sorted.{find-yes, find-no, insert-last}
 use Rattle.model.specs.Figures.{tableBytes}
 use Rattle.model.specs.Table.{Entry, entryOf, idOf, look, put}
 use Rattle.model.specs.Snapshot.{consTo, loadEntries, holdsOwn, load}
 use Rattle.model.proofs.Snapshots.{last-end, last-more, onto, onto-start, onto-next, onto-end}
 use Rattle.table.specs.declared.Table.{Table}
-use Rattle.table.specs.View.{blank, rowAt, seen, view, Kept, Gap, Stored}
-use Rattle.table.proofs.Rows.{view-length, view-at, all-stored}
+use Rattle.table.specs.View.{rowAt, view, Kept, Gap, Stored}
+use Rattle.table.proofs.Rows.{view-length, view-each, all-stored}
 use Rattle.snapshot.specs.declared.read.EntryRead.{EntryRead}
 use Rattle.snapshot.specs.declared.read.EntryRead.the-variants.{Whole, NoEntry}
 use Rattle.snapshot.specs.declared.read.HeadRead.{HeadRead}
@@ -162,8 +161,7 @@ module _ (now : ℕ) (s : List ℕ) (at count : ℕ) (m₀ : List ℕ) (t : Tabl
         under : (j : ℕ) → j < k → rowAt t j .id < node
         under j q =
             let c : j < t .count = omega (arith, f .full) in
-            let n : idOf (getD (view t m) j (seen m blank)) < low = all-at (λ e. idOf e < low) (seen m blank) (view t m) j (f .below) (rw (view-length t (f .kept .rows) m) c) in
-            let e : idOf (getD (view t m) j (seen m blank)) ≡ rowAt t j .id = ap idOf (view-at t (f .kept .rows) m j c) in
+            let n : rowAt t j .id < low = view-each t (f .kept .rows) (λ e. idOf e < low) m j (f .below) c in
             omega (arith, x .high)
 
     module _ (r : Table) (m′ : List ℕ) (st : Stored (entryOf node seq (take (start + size - start) (drop start s)) age now) t m k r m′) (l : length m′ ≡ length m) where

@@ -27,7 +27,7 @@ use Rattle.node.specs.View.{stateOf, Rep, Held, Moved}
 use Rattle.node.proofs.Parts.{state-held}
 use Rattle.node.proofs.Moves.{moved-to}
 use Rattle.start.specs.Started.{undigested, digested, unlinked, ResumedFrom}
-use Rattle.start.proofs.Starting.{then-digested, fits-readable}
+use Rattle.start.proofs.Starting.{then-digested, table-readable}
 
 -- ---- our data published once more
 
@@ -120,7 +120,7 @@ module _ (now : ℕ) (bytes rs m : List ℕ) (s₀ : State) (x : Loaded) (m₁ :
 
         -- what the digest asks
         pub resume-readable : Rep r m₂ × (Readable now (r .table) m₂ × Held r m₂)
-        resume-readable = (u .rep, fits-readable now r m₂ (u .rep) (after now rs taken taken-fits) again-is (after-fits now rs taken taken-fits l four) l)
+        resume-readable = (u .rep, table-readable now r m₂ (u .rep) (after now rs taken taken-fits) again-is (after-fits now rs taken taken-fits l four) l)
 
         resumed-from : (q : State) → Moved (digested now (stateOf r m₂)) m₂ q m₂ → Moved (resumed now rs taken) m q m₂
         resumed-from q d =

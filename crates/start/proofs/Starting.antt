@@ -16,6 +16,7 @@ use Rattle.table.specs.declared.Table.{Table}
 use Rattle.table.specs.View.{view, Kept}
 use Rattle.reach.specs.declared.Reached.{Reached}
 use Rattle.reach.specs.Marks.{Readable, Reaching}
+use Rattle.reach.proofs.Nodes.{fits-readable}
 use Rattle.node.specs.declared.State.{State}
 use Rattle.node.specs.declared.Endpoint.{Endpoint}
 use Rattle.node.specs.declared.peers.Peer.{Peer}
@@ -64,11 +65,11 @@ module _ (now : ℕ) (s : State) (m : List ℕ) (k : Rep s m) where
       }
 
   -- a table that fits may be marked
-  pub fits-readable : (a : ModelState) → stateOf s m ≡ a → TableFits (a .own) now (a .table) → now ≤ lastReading → Readable now (s .table) m × Held s m
+  pub table-readable : (a : ModelState) → stateOf s m ≡ a → TableFits (a .own) now (a .table) → now ≤ lastReading → Readable now (s .table) m × Held s m
   unfolding stateOf
-  fits-readable a e f l =
+  table-readable a e f l =
       let g : TableFits (s .own) now (view (s .table) m) = subst (λ (x : ModelState). TableFits (x .own) now (x .table)) (sym e) f in
-      (record { kept = k .table; entries = g .entries; clock = l }, g .held)
+      (fits-readable (s .own) now (s .table) m (k .table) g l, g .held)
 
 -- ---- beginning
 
@@ -83,7 +84,7 @@ module _ (own now : ℕ) (rs : List ℕ) (o : own < circle) (l : now ≤ lastRea
 
     pub begun-readable : Rep s m × (Readable now (s .table) m × Held s m)
     unfolding undigested
-    begun-readable = (h .0, fits-readable now s m (h .0) (undigested own now rs (entryOf own 0 [] 0 now ∷ [])) alone begun-fits l)
+    begun-readable = (h .0, table-readable now s m (h .0) (undigested own now rs (entryOf own 0 [] 0 now ∷ [])) alone begun-fits l)
 
     pub begun-moved : (r : State) → Moved (digested now (stateOf s m)) m r m → Moved (begun own now rs) m r m
     unfolding begun

@@ -482,6 +482,10 @@ module _ (t : Table) (k : Rows t) where
   unfolding view
   view-at m i p = List·getD-map (seen m) (live t) i blank ∙ ap (seen m) (live-at t i p)
 
+  -- what holds of every entry holds of the one in the row at place i
+  pub view-each : (P : Entry → Type 0) (m : List ℕ) (i : ℕ) → All P (view t m) → i < t .count → P (seen m (rowAt t i))
+  view-each P m i h p = subst P (view-at m i p) (all-at P (seen m blank) (view t m) i h (rw (view-length m) p))
+
   pub view-ascending : (m : List ℕ) → Ascending idOf (view t m)
   unfolding view
   view-ascending m = seen-ascending m (live t) (k .ascending)

@@ -1,41 +1,19 @@
--- The model's Trickle steps in each of their cases, and what the invariant gives the code. Assumes nothing.
+-- An equal digest heard, the send point, and what the invariant gives the code. Assumes nothing.
 use mathlib.Core.Path.{_≡_, ap}
-use mathlib.Core.Bool.{true, false}
+use mathlib.Core.Bool.{false}
 use mathlib.Core.Logic.{inl, inr}
-use Prim.Native.Nat.{ℕ, _+_, _*_, _/_, _≤_, _<_, min}
+use Prim.Native.Nat.{ℕ, _+_, _/_, _≤_, _<_}
 use native.Mathlib.Omega.{arith}
-use lib.Dec.{ltb, leb}
-use borrow.Author.Tests.{lt-ltb, le-ltb, le-leb, lt-leb}
+use lib.Dec.{leb}
 use Rattle.base.specs.Lists.{In}
 use Rattle.model.specs.Figures.{lastReading, leastInterval, greatestInterval}
-use Rattle.model.specs.Trickle.{Trickle as ModelTrickle, fresh, hear, spend, reset, pointDue, event}
+use Rattle.model.specs.Trickle.{Trickle as ModelTrickle, hear, pointDue}
 use Rattle.model.specs.Invariant.{TrickleFits, intervals}
 use Rattle.trickle.specs.declared.Trickle.{Trickle}
 use Rattle.trickle.specs.View.{trickleOf, Small}
 
-module _ (t : ModelTrickle) (now random : ℕ) where
-  pub reset-over : leastInterval < t .interval → reset now random t ≡ fresh now leastInterval random
-  unfolding reset
-  reset-over h = rw (lt-ltb leastInterval (t .interval) h)
-
-  pub reset-least : t .interval ≤ leastInterval → reset now random t ≡ t
-  unfolding reset
-  reset-least h = rw (le-ltb leastInterval (t .interval) h)
-
-  pub due-open : t .spent ≡ false → pointDue now t ≡ leb (t .start + t .point) now
-  due-open h = rw h
-
-  pub event-due : pointDue now t ≡ true → event now random t ≡ record { sends = ltb (t .count) 1; next = record { start = t .start; point = t .point; interval = t .interval; count = t .count; spent = true } }
-  unfolding event spend
-  event-due h = rw h
-
-  pub event-over : pointDue now t ≡ false → t .start + t .interval ≤ now → event now random t ≡ record { sends = false; next = fresh now (min (t .interval * 2) greatestInterval) random }
-  unfolding event
-  event-over h l = rw (h, le-leb (t .start + t .interval) now l)
-
-  pub event-none : pointDue now t ≡ false → now < t .start + t .interval → event now random t ≡ record { sends = false; next = t }
-  unfolding event
-  event-none h l = rw (h, lt-leb (t .start + t .interval) now l)
+pub due-open : (t : ModelTrickle) (now : ℕ) → t .spent ≡ false → pointDue now t ≡ leb (t .start + t .point) now
+due-open t now h = rw h
 
 module _ (t : ModelTrickle) where
   counted : ℕ → ModelTrickle

@@ -23,6 +23,7 @@ use Rattle.trickle.specs.declared.Event.{Event}
 use Rattle.trickle.proofs.Laws.{fits-small}
 use Rattle.table.specs.View.{view}
 use Rattle.reach.specs.Marks.{Readable}
+use Rattle.reach.proofs.Nodes.{fits-readable}
 use Rattle.node.specs.View.{endpointOf, stateOf, Rep, Held, Moved, Settled}
 use Rattle.node.specs.declared.State.{State}
 use Rattle.node.specs.declared.Endpoint.{Endpoint}
@@ -55,7 +56,7 @@ module _ (now i : ℕ) (s : ModelState) (mid : Midway now s) (m : List ℕ) (a :
 
   pub dropped-readable : now ≤ lastReading → Readable now (a .table) m′ × Held a m′
   unfolding stateOf
-  dropped-readable l = (record { kept = o .rep .table; entries = dropped-midway .table .entries; clock = l }, held-midway now a m′ dropped-midway)
+  dropped-readable l = (fits-readable (a .own) now (a .table) m′ (o .rep .table) (dropped-midway .table) l, held-midway now a m′ dropped-midway)
 
   pub dropped-cleared : (rs d : List ℕ) (r : State) → d ≡ networkDigest (a .own) now (view (a .table) m′) → Settled now rs d a r → Cleared now i rs s m r m′
   dropped-cleared rs d r e h =

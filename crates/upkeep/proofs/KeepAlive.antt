@@ -1,5 +1,5 @@
 -- Keep-Alive intervals: the search for the TLV, and the interval of a peer's node. Assumes nothing.
-use mathlib.Core.Path.{_≡_, refl, sym, ap, _∙_, subst}
+use mathlib.Core.Path.{_≡_, refl, sym, ap, _∙_}
 use mathlib.Core.Bool.{Bool, true, false, _&&_}
 use mathlib.Core.List.{List}
 use Prim.Native.Nat.{ℕ, _+_, _-_, _*_, _/_, _≤_, _<_}
@@ -10,52 +10,41 @@ use borrow.Author.Tests.{eq-eqb, ne-eqb, le-leb, lt-leb, leb-true, leb-false}
 use Rattle.base.specs.Lists.{first, orElse}
 use Rattle.base.specs.Bytes.{u32At}
 use Rattle.base.proofs.Tests.{by-test, and-left, and-right}
-use Rattle.base.proofs.Places.{all-at}
-use Rattle.base.proofs.Written.{part-length}
 use Rattle.wire.specs.Row.{typeOf, valueOf, isRow, tlvs}
 use Rattle.wire.specs.Order.{good}
 use Rattle.wire.specs.Answers.{Tells}
 use Rattle.wire.specs.declared.row.Header.{Header}
-use Rattle.wire.proofs.Rows.{tlvs-end}
+use Rattle.wire.proofs.Rows.{tlvs-end, value-length, value-number, value-first}
 use Rattle.wire.proofs.Good.{good-row}
 use Rattle.model.specs.Figures.{usualInterval, dataLimit}
 use Rattle.model.specs.Table.{Entry}
 use Rattle.model.specs.State.{Peer as ModelPeer}
 use Rattle.model.specs.Tick.{isKeepAlive, intervalIn, intervalOf, silentFor, goes}
-use Rattle.table.specs.View.{blank, dataOf, seen, rowAt, view, Kept, Stands, Gap}
+use Rattle.table.specs.View.{dataOf, rowAt, view, Kept, Stands, Gap}
 use Rattle.table.specs.declared.Table.{Table}
-use Rattle.table.proofs.Rows.{look-stands, look-gap, view-length, view-at}
+use Rattle.table.proofs.Rows.{look-stands, look-gap, view-each}
 use Rattle.reach.specs.Marks.{tlvOf}
-use Rattle.base.proofs.Bytes.{u32-part}
 use Rattle.upkeep.specs.Ticked.{AllGood}
 
 -- ---- one TLV
 
 module _ (s : List ℕ) (at : ℕ) (h : Header) (k : Tells s at h) where
-  value-length : length (valueOf (tlvOf s at h)) ≡ h .len
-  value-length = ap length (k .value) ∙ part-length s (h .start) (h .len) (omega (arith, k .inside, k .within))
-
-  -- a number in the value, as the code reads it
-  value-number : (i : ℕ) → i + 4 ≤ h .len → u32At (valueOf (tlvOf s at h)) i ≡ u32At s (h .start + i)
-  value-number i l = rw (k .value) (u32-part s (h .len) (h .start) i l)
-
   module _ (endpoint : ℕ) where
     pub other-kind : ¬ (h .kind ≡ 9) → isKeepAlive endpoint (tlvOf s at h) ≡ false
     other-kind n = rw (sym (k .kind), ne-eqb (h .kind) 9 n)
 
     pub too-short : h .kind ≡ 9 → h .len < 8 → isKeepAlive endpoint (tlvOf s at h) ≡ false
-    too-short e l = rw (sym (k .kind), eq-eqb (h .kind) 9 e, value-length, lt-leb 8 (h .len) l)
+    too-short e l = rw (sym (k .kind), eq-eqb (h .kind) 9 e, value-length s at h k, lt-leb 8 (h .len) l)
 
     pub keeps-alive : h .kind ≡ 9 → 8 ≤ h .len → (n : ℕ) → n ≡ u32At s (h .start) → isKeepAlive endpoint (tlvOf s at h) ≡ eqb n endpoint
     keeps-alive e l n q =
-        let z : h .start + 0 ≡ h .start = omega arith in
-        let r : u32At (valueOf (tlvOf s at h)) 0 ≡ n = value-number 0 (omega arith) ∙ rw z (sym q) in
-        rw (sym (k .kind), eq-eqb (h .kind) 9 e, value-length, le-leb 8 (h .len) l) (ap (λ (x : ℕ). eqb x endpoint) r)
+        let r : u32At (valueOf (tlvOf s at h)) 0 ≡ n = value-first s at h k (omega arith) ∙ sym q in
+        rw (sym (k .kind), eq-eqb (h .kind) 9 e, value-length s at h k, le-leb 8 (h .len) l) (ap (λ (x : ℕ). eqb x endpoint) r)
 
     pub long-enough : {b : Bool} → b ≡ isKeepAlive endpoint (tlvOf s at h) → b ≡ true → 8 ≤ h .len
     long-enough e t =
         let q : eqb (typeOf (tlvOf s at h)) 9 && leb 8 (length (valueOf (tlvOf s at h))) ≡ true = and-left _ _ (sym e ∙ t) in
-        rw value-length at (leb-true 8 (length (valueOf (tlvOf s at h))) (and-right (eqb (typeOf (tlvOf s at h)) 9) _ q))
+        rw (value-length s at h k) at (leb-true 8 (length (valueOf (tlvOf s at h))) (and-right (eqb (typeOf (tlvOf s at h)) 9) _ q))
 
 -- ---- the search
 
@@ -84,9 +73,7 @@ module _ (t : Table) (m : List ℕ) (k : Kept t m) (i : ℕ) where
   -- the data of a node that stands in the table are a row
   pub stands-row : (id : ℕ) → AllGood (view t m) → Stands t id i → isRow (dataOf m (rowAt t i)) ≡ true
   stands-row id g s =
-      good-row dataLimit (dataOf m (rowAt t i))
-      (subst (λ (e : Entry). good dataLimit (e .says .nodeData) ≡ true) (view-at t (k .rows) m i (s .at))
-      (all-at (λ e. good dataLimit (e .says .nodeData) ≡ true) (seen m blank) (view t m) i g (rw (view-length t (k .rows) m) (s .at))))
+      good-row dataLimit (dataOf m (rowAt t i)) (view-each t (k .rows) (λ e. good dataLimit (e .says .nodeData) ≡ true) m i g (s .at))
 
   module _ (p : ModelPeer) where
     pub interval-found : Stands t (p .node) i → intervalOf (view t m) p ≡ intervalIn (dataOf m (rowAt t i)) (p .theirs)

@@ -4,7 +4,7 @@ use mathlib.Core.Bool.{Bool, true, false, _&&_, and-false, or-true}
 use mathlib.Core.List.{List, [], _∷_, _++_, append-assoc}
 use mathlib.Core.Option.{Option, none, some}
 use mathlib.Core.Logic.{_⊎_, inl, inr, ⊎-elim}
-use Prim.Native.Nat.{ℕ, zero, suc, _+_, _-_, _*_, _<_, _≤_}
+use Prim.Native.Nat.{ℕ, zero, suc, _+_, _-_, _*_, _%_, _<_, _≤_}
 use native.Mathlib.Omega.{arith}
 use lib.ListN.{length, take, drop, length-append, length-take, length-drop, take-append-drop, drop-of-length-le, List·getD-append}
 use lib.Seq.{take-take, length-take-le, drop-drop, take-add, take-append-seam, drop-append-seam, drop-append-le, take-append-le}
@@ -416,6 +416,18 @@ wholes-few (t ∷ ts) w = omega (arith, heads-four t (w .0 .heads), wholes-few t
 
 pub tlvs-few : (d : List ℕ) → isRow d ≡ true → 4 * length (tlvs d) ≤ length d
 tlvs-few d r = omega (arith, wholes-few (tlvs d) (tlvs-whole d r), ap length (tlvs-joined d r))
+
+-- a row of whole TLVs needs no padding: its length is a multiple of four
+whole-length : (t : List ℕ) → Whole t → length t % 4 ≡ 0
+unfolding sizeOf
+whole-length t w = omega (arith, w .size)
+
+wholes-length : (ts : List (List ℕ)) → Wholes ts → length (joinAll ts) % 4 ≡ 0
+wholes-length [] w = refl
+wholes-length (t ∷ ts) w = omega (arith, length-append t (joinAll ts), whole-length t (w .0), wholes-length ts (w .1))
+
+pub row-length : (d : List ℕ) → isRow d ≡ true → length d % 4 ≡ 0
+row-length d r = omega (arith, wholes-length (tlvs d) (tlvs-whole d r), ap length (tlvs-joined d r))
 
 -- ---- the TLVs of a row of bytes are bytes
 

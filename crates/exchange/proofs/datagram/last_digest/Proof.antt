@@ -1,4 +1,3 @@
-use borrow.Author.Needs.{needs}
 use Rattle.reply.proofs.Answers.{markable-readable, markable-held}
 use Rattle.exchange.proofs.datagram.last_digest.Statement.{statement}
 use Rattle.exchange.proofs.datagram.last_digest.Tie as tie

@@ -1,5 +1,5 @@
 use borrow.Author.Needs.{needs}
-use Rattle.exchange.proofs.Statements.{ignored-carried, ask-carried, number-carried, replace-carried, insert-carried, drop-carried, acts-as, taken-as}
+use Rattle.exchange.proofs.Statements.{ignored-carried, ask-carried, taken-carried, drop-carried, acts-as, taken-as}
 use Rattle.exchange.proofs.statement.carry_out.Statement.{statement}
 use Rattle.exchange.proofs.statement.carry_out.Tie as tie
 
@@ -74,8 +74,7 @@ same-length-4 c = search needs
 returns-3 : tie.Need-returns-3
 returns-3 c =
     let a = c .before .before .before .before .before .before .before .before .before .args in
-    let q = c .before .before .before .before .d2 .given in
-    number-carried (a .c) (a .w) (a .mem .now) (a .room .now) (a .value .now) (a .d) (q .0 .0) (q .0 .1 .0) (q .0 .1 .1 .0) (q .0 .1 .1 .1 .0) (c .take-number .result) (a .mem .now) (q .1) (c .take-number .ensures)
+    taken-carried (a .c) (a .w) (a .mem .now) (a .room .now) (a .value .now) (a .d) _ (c .before .before .before .before .d2 .given .1) (c .take-number .result) (a .mem .now) (c .take-number .ensures)
 
 same-length-5 : tie.Need-same-length-5
 same-length-5 c = search needs
@@ -86,8 +85,7 @@ same-length-6 c = search needs
 returns-4 : tie.Need-returns-4
 returns-4 c =
     let a = c .before .before .before .before .before .before .before .before .before .before .before .args in
-    let q = c .before .before .before .before .before .before .d3 .given in
-    replace-carried (a .c) (a .w) (a .mem .now) (a .room .now) (a .value .now) (a .d) (q .0 .0) (q .0 .1 .0) (q .0 .1 .1 .0) (q .0 .1 .1 .1 .0) (c .before .before .take-over .result) _ (q .1) (c .before .before .take-over .ensures)
+    taken-carried (a .c) (a .w) (a .mem .now) (a .room .now) (a .value .now) (a .d) _ (c .before .before .before .before .before .before .d3 .given .1) (c .before .before .take-over .result) _ (c .before .before .take-over .ensures)
 
 same-length-7 : tie.Need-same-length-7
 same-length-7 c = search needs
@@ -98,8 +96,7 @@ same-length-8 c = search needs
 returns-5 : tie.Need-returns-5
 returns-5 c =
     let a = c .before .before .before .before .before .before .before .before .before .before .before .args in
-    let q = c .before .before .before .before .before .before .d4 .given in
-    insert-carried (a .c) (a .w) (a .mem .now) (a .room .now) (a .value .now) (a .d) (q .0 .0) (q .0 .1 .0) (q .0 .1 .1 .0) (q .0 .1 .1 .1 .0) (c .before .before .take-in .result) _ (q .1) (c .before .before .take-in .ensures)
+    taken-carried (a .c) (a .w) (a .mem .now) (a .room .now) (a .value .now) (a .d) _ (c .before .before .before .before .before .before .d4 .given .1) (c .before .before .take-in .result) _ (c .before .before .take-in .ensures)
 
 returns-6 : tie.Need-returns-6
 returns-6 c =

@@ -14,7 +14,7 @@ add-result c = search needs
 returns-2 : tie.Need-returns-2
 returns-2 c =
     let a = c .before .before .args in
-    sym (due-open (trickleOf (a .self)) (a .clock) 0 (c .before .if1 .left))
+    sym (due-open (trickleOf (a .self)) (a .clock) (c .before .if1 .left))
 
 pub is-due-spec : {M : Type 1} → statement M
 is-due-spec = tie.close (tie.spec returns add-result returns-2)
