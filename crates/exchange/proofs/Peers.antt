@@ -1,14 +1,14 @@
 -- Node Endpoint TLVs: the last contact of the sender, a sender that becomes a peer, and what a Node Endpoint TLV does. Assumes nothing.
 use mathlib.Core.Path.{_≡_, refl, sym, ap, _∙_}
-use mathlib.Core.Bool.{Bool, true, false, _&&_}
+use mathlib.Core.Bool.{Bool, true, false, not, _&&_}
 use mathlib.Core.List.{List, map}
 use Prim.Native.Nat.{ℕ, _+_, _≤_, _<_}
 use native.Mathlib.Omega.{arith}
 use lib.ListN.{length}
 use lib.Dec.{ltb, leb}
-use borrow.Author.Tests.{le-leb, lt-leb, le-ltb, lt-ltb}
+use borrow.Author.Tests.{le-leb, lt-leb, le-ltb, lt-ltb, ltb-true, leb-true}
 use Rattle.base.specs.Lists.{any}
-use Rattle.base.proofs.Tests.{and-both, and-no}
+use Rattle.base.proofs.Tests.{and-left, and-right, and-both, and-no, and-stop, no-not}
 use Rattle.model.specs.Figures.{mostPeers, dataLimit, peerBytes}
 use Rattle.model.specs.State.{State as ModelState, withPeers, ownData, isPeer, contacted}
 use Rattle.model.specs.Handle.{Sender as ModelSender, Work as ModelWork, withState, withSender, askNetwork, touchBy, touch, newPeer, roomForPeer, addPeer, greet, knows, onStranger, onEndpoint}
@@ -40,7 +40,30 @@ module _ (c : Context) (w : Work) (m r : List ℕ) (h : Sound (c .clock) w m r) 
       (touch-some (contextOf c) (workOf w m r) f (work-known w m r e)
       ∙ ap (λ (x : ModelState). withState (touchBy (contextOf c) f x) (workOf w m r)) (work-state w m r))
 
+yes-not : (b : Bool) → not b ≡ false → b ≡ true
+yes-not true e = refl
+yes-not false e = sym e
+
 -- ---- an unknown sender over unicast
+
+-- room for a peer, as the code asks
+module _ (count n : ℕ) where
+  pub room-many : 16 ≤ count → false ≡ ltb count mostPeers && leb (n + peerBytes) dataLimit
+  room-many p = and-stop (ltb count mostPeers) (leb (n + peerBytes) dataLimit) (le-ltb count mostPeers p)
+
+  pub room-full : 1008 < n → false ≡ ltb count mostPeers && leb (n + peerBytes) dataLimit
+  room-full p = sym (and-no (ltb count mostPeers) (leb (n + peerBytes) dataLimit) (lt-leb (n + peerBytes) dataLimit (omega (arith, p))))
+
+  pub room-left : count < 16 → n ≤ 1008 → true ≡ ltb count mostPeers && leb (n + peerBytes) dataLimit
+  room-left p q = sym (and-both (ltb count mostPeers) (leb (n + peerBytes) dataLimit) (lt-ltb count mostPeers p) (le-leb (n + peerBytes) dataLimit (omega (arith, q))))
+
+  -- and what it says
+  module _ (b : Bool) (e : b ≡ ltb count mostPeers && leb (n + peerBytes) dataLimit) (t : not b ≡ false) where
+    pub room-count : count < mostPeers
+    room-count = ltb-true count mostPeers (and-left (ltb count mostPeers) (leb (n + peerBytes) dataLimit) (sym e ∙ yes-not b t))
+
+    pub room-data : (z : ℕ) → n ≡ z → z + peerBytes ≤ dataLimit
+    room-data z q = rw (sym q) (leb-true (n + peerBytes) dataLimit (and-right (ltb count mostPeers) (leb (n + peerBytes) dataLimit) (sym e ∙ yes-not b t)))
 
 module _ (c : Context) (w : Work) (m r : List ℕ) (h : Sound (c .clock) w m r) (f : ModelSender) where
   -- room for a peer, by the numbers that the code has
@@ -50,17 +73,10 @@ module _ (c : Context) (w : Work) (m r : List ℕ) (h : Sound (c .clock) w m r) 
   no-room : roomForPeer (workOf w m r .state) ≡ false → Stepped c 1 (greet (contextOf c) f) w m r (putDropped (w .dropped + 1) w) m r
   no-room e = stepped-dropped h (greet (contextOf c) f) (greet-full (contextOf c) (workOf w m r) f e)
 
-  -- as many peers as there can be
-  pub greeted-many : mostPeers ≤ w .state .peers .count → Stepped c 1 (greet (contextOf c) f) w m r (putDropped (w .dropped + 1) w) m r
-  greeted-many p = no-room (room-is ∙ rw (le-ltb (w .state .peers .count) mostPeers p))
-
-  -- our data has no room for a Peer TLV
-  pub greeted-full : dataLimit < length (ownData (stateOf (w .state) m)) + peerBytes → Stepped c 1 (greet (contextOf c) f) w m r (putDropped (w .dropped + 1) w) m r
-  greeted-full p =
-      no-room
-      (room-is
-      ∙ and-no (ltb (w .state .peers .count) mostPeers) (leb (length (ownData (stateOf (w .state) m)) + peerBytes) dataLimit)
-      (lt-leb (length (ownData (stateOf (w .state) m)) + peerBytes) dataLimit p))
+  -- none: as many peers as there can be, or our data has no room for a Peer TLV
+  pub greeted-none : (b : Bool) (n : ℕ) → b ≡ ltb (w .state .peers .count) mostPeers && leb (n + peerBytes) dataLimit → n ≡ length (ownData (stateOf (w .state) m)) → not b ≡ true
+      → Stepped c 1 (greet (contextOf c) f) w m r (putDropped (w .dropped + 1) w) m r
+  greeted-none b n e q t = no-room (room-is ∙ rw (sym q) (sym e ∙ no-not b t))
 
   -- a new peer
   pub greeted : w .state .peers .count < mostPeers → length (ownData (stateOf (w .state) m)) + peerBytes ≤ dataLimit → (s : State) (m′ : List ℕ)

@@ -7,22 +7,36 @@ use reply::Context;
 use reply::Sender;
 use reply::Work;
 use reply::put::ask_network;
+ghost use mathlib.Core.Path.{_≡_};
+ghost use mathlib.Core.Bool.{_&&_};
+ghost use Prim.Native.Nat.{_+_};
+ghost use lib.Dec.{ltb, leb};
+ghost use Rattle.model.specs.Figures.{mostPeers, dataLimit, peerBytes};
 ghost use Rattle.model.specs.Handle.{greet, onEndpoint, touch};
 ghost use Rattle.reply.specs.View.{contextOf, Sound, Ready, Stepped};
+
+// Room for another peer: fewer than 16 stand, and our data has 16 bytes left.
+fn has_room(count: usize, len: usize) -> bool
+    ensures { λ r. ⌜ r ≡ ltb count mostPeers && leb (len + peerBytes) dataLimit ⌝ }
+{
+    if 16 <= count {
+        return false;
+    }
+    if 1008 < len {
+        return false;
+    }
+    true
+}
 
 // An unknown sender over unicast: a peer if there is room, else dropped.
 fn greet(w: Work, mem: &mut [u8], room: &mut [u8], c: Context, f: Sender) -> Work
     requires { ⌜ Ready c w (now mem) (now room) ⌝ }
     ensures { λ v. ⌜ Stepped c 1 (greet (contextOf c) (record { node = f .node; endpoint = f .endpoint })) w (now (mem .entry)) (now (room .entry)) v (now (mem .exit)) (now (room .exit)) ⌝ }
 {
-    let mut next = w;
     let len = own_data(w.state, mem).len();
     let count = w.state.peers.count;
-    if 16 <= count {
-        next.dropped = w.dropped + 1;
-        return next;
-    }
-    if 1008 < len {
+    if !has_room(count, len) {
+        let mut next = w;
         next.dropped = w.dropped + 1;
         return next;
     }
@@ -32,7 +46,9 @@ fn greet(w: Work, mem: &mut [u8], room: &mut [u8], c: Context, f: Sender) -> Wor
         ours: c.endpoint,
         contact: c.clock,
     };
-    next.state = add_peer(w.state, mem, c.clock, p);
+    let s = add_peer(w.state, mem, c.clock, p);
+    let mut next = w;
+    next.state = s;
     next.fresh = false;
     next
 }
