@@ -5,6 +5,7 @@
 
 use crate::calls::{Calls, Rooms, View};
 use crate::node::{Marks, Node, Randoms, Summed, Written};
+use crate::totals;
 use crate::wire::Payment;
 use std::io::{self, BufRead, Write};
 use std::str::FromStr;
@@ -69,6 +70,10 @@ pub enum Line {
         node: u32,
     },
     State,
+    /// The text of the program `totals` for these bytes. No call of the node.
+    Totals {
+        bytes: Vec<u8>,
+    },
 }
 
 /// Reads a line; nothing if it is not of the form.
@@ -132,6 +137,9 @@ pub fn parse(line: &str) -> Option<Line> {
             node: number(node)?,
         }),
         ["state"] => Some(Line::State),
+        ["totals", hex] => Some(Line::Totals {
+            bytes: from_hex(hex)?,
+        }),
         _ => None,
     }
 }
@@ -332,6 +340,7 @@ impl<N: Calls> Session<N> {
             }
             Line::Show { node: shown } => written_text("show", &node.show(rooms, *shown)),
             Line::State => state_text(&node.view()),
+            Line::Totals { bytes } => totals::text(bytes),
         }
     }
 }
