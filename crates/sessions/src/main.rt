@@ -1,0 +1,55 @@
+// Runs a session script from standard input, and writes what each line prints (reference/README.md, Session scripts).
+mod book;
+mod changing;
+mod fields;
+mod hexadecimal;
+mod input;
+mod output;
+mod session;
+mod showing;
+mod states;
+mod words;
+
+use input::next_line;
+use session::first;
+use session::step;
+ghost use mathlib.Core.Path.{_≡_};
+ghost use Prim.Native.Nat.{_≤_};
+ghost use lib.ListN.{length};
+
+// Line by line to the end of the input. A proved loop has to end, and nothing says that the input does: the turns count down from a number that no run
+// uses up.
+fn run(window: &mut [u8], mem: &mut [u8], saved: &mut [u8])
+    requires { ⌜ (40000 ≤ length (now mem)) × (40000 ≤ length (now saved)) ⌝ }
+{
+    let mut x = first();
+    let mut from = 0;
+    let mut end = 0;
+    let mut turns = u64::MAX;
+    while turns > 0 {
+        let n = next_line(window, from, end);
+        if !n.some {
+            return;
+        }
+        let at = n.at;
+        let stop = n.stop;
+        x = step(x, mem, saved, &mut window[at..stop]);
+        from = n.from;
+        end = n.end;
+        turns -= 1;
+    }
+}
+
+// What a line may have at most; the longest snapshot takes half of it.
+fn window_buffer() -> [u8; 131072]
+    ensures { λ r. ⌜ 131072 ≡ length r ⌝ }
+{
+    [0; 131072]
+}
+
+fn main() {
+    let mut window = window_buffer();
+    let mut mem = io::large_buffer();
+    let mut saved = io::large_buffer();
+    run(&mut window, &mut mem, &mut saved);
+}
