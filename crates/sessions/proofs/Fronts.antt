@@ -1,6 +1,5 @@
 -- The table stands in the first bytes of its memory: memories with the same front serve alike. Assumes nothing.
 use mathlib.Core.Path.{_≡_, refl, sym, ap, subst, _∙_}
-use mathlib.Core.Bool.{true, false}
 use mathlib.Core.List.{List, [], _∷_, _++_, map}
 use Prim.Native.Nat.{ℕ, _*_, _≤_, _<_}
 use native.Mathlib.Omega.{arith}
@@ -13,7 +12,6 @@ use Rattle.base.proofs.Lists.{take-drop-take}
 use Rattle.sha256.specs.Sha256.{hash16}
 use Rattle.model.specs.Figures.{dataLimit, tableBytes}
 use Rattle.model.specs.Table.{Entry, entryOf}
-use Rattle.model.specs.State.{State as ModelState}
 use Rattle.model.specs.Invariant.{Valid}
 use Rattle.table.specs.declared.Table.{Table}
 use Rattle.table.specs.declared.Entry.{Entry as Row}

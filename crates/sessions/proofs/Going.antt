@@ -1,8 +1,8 @@
 -- Each call with a memory that is too small is refused, and so leaves all as it was. Assumes nothing.
 use mathlib.Core.Path.{_≡_, refl, sym, ap, _∙_}
-use mathlib.Core.Bool.{true, false, cond}
+use mathlib.Core.Bool.{false, cond}
 use mathlib.Core.List.{List, [], _∷_}
-use Prim.Native.Nat.{ℕ, _≤_, _<_}
+use Prim.Native.Nat.{ℕ, _≤_}
 use native.Mathlib.Omega.{arith}
 use lib.ListN.{length}
 use lib.Dec.{eqb}
@@ -11,9 +11,9 @@ use Rattle.base.specs.Lists.{All}
 use Rattle.base.proofs.Tests.{by-test}
 use Rattle.wire.specs.Payment.{Payment}
 use Rattle.model.specs.Figures.{tableBytes}
-use Rattle.model.specs.Refusals.{Row, late, back, smallTable, noHousehold, paidAlready, full, long, noRow}
+use Rattle.model.specs.Refusals.{Row, late, smallTable, noHousehold, paidAlready, full, long, noRow}
 use Rattle.model.specs.State.{State as ModelState}
-use Rattle.model.specs.Begin.{Done as ModelDone, begun, refusalBegin, begin}
+use Rattle.model.specs.Begin.{Done as ModelDone, refusalBegin, begin}
 use Rattle.model.specs.Snapshot.{noSnapshot, refusalResume, resume}
 use Rattle.model.specs.Pay.{refusalPay, pay, refusalPurge, purge}
 use Rattle.model.specs.Tick.{Sent as ModelSent, refusalTick, tick}

@@ -15,6 +15,7 @@ ghost use Prim.Native.Nat.{_≤_};
 ghost use Rattle.ledger.specs.Promises.{AsLeft};
 ghost use Rattle.sessions.specs.Kept.{Goes};
 
+// Our node alone.
 fn begin(s: State, mem: &[u8], v: [u64; 8]) -> State
     requires { ⌜ AsLeft s (now mem) ⌝ }
     ensures { λ r. ⌜ Goes s (now (mem .entry)) r (now (mem .entry)) ⌝ }
@@ -22,11 +23,10 @@ fn begin(s: State, mem: &[u8], v: [u64; 8]) -> State
     let a = change::begin(s, mem, small(v[0]), v[1], randoms(v, 2));
     labelled_word(b"begin ", a.number);
     end();
-    let r = a.state;
-    r
+    a.state
 }
 
-// From bytes that were found, or from those of the last accepted save.
+// The node of a snapshot.
 fn resume_from(s: State, mem: &mut [u8], bytes: &[u8], v: [u64; 8]) -> State
     requires { ⌜ AsLeft s (now mem) ⌝ }
     ensures { λ r. ⌜ Goes s (now (mem .entry)) r (now (mem .exit)) ⌝ }
@@ -34,10 +34,10 @@ fn resume_from(s: State, mem: &mut [u8], bytes: &[u8], v: [u64; 8]) -> State
     let a = change::resume(s, mem, bytes, v[0], randoms(v, 1));
     labelled_word(b"resume ", a.number);
     end();
-    let r = a.state;
-    r
+    a.state
 }
 
+// The snapshot is what the line gives, or the last accepted save.
 fn resume(s: State, mem: &mut [u8], saved: &[u8], line: &mut [u8], v: [u64; 8]) -> State
     requires { ⌜ AsLeft s (now mem) ⌝ }
     ensures { λ r. ⌜ Goes s (now (mem .entry)) r (now (mem .exit)) ⌝ }
@@ -53,6 +53,7 @@ fn resume(s: State, mem: &mut [u8], saved: &[u8], line: &mut [u8], v: [u64; 8]) 
     resume_from(s, mem, &line[start..stop], v)
 }
 
+// The datagram is what the line gives.
 fn receive(s: State, mem: &mut [u8], reply: usize, line: &mut [u8], v: [u64; 8]) -> State
     requires { ⌜ AsLeft s (now mem) × (reply ≤ 5000) ⌝ }
     ensures { λ r. ⌜ Goes s (now (mem .entry)) r (now (mem .exit)) ⌝ }
@@ -65,6 +66,7 @@ fn receive(s: State, mem: &mut [u8], reply: usize, line: &mut [u8], v: [u64; 8])
     received(s, mem, reply, &line[start..stop], v)
 }
 
+// A datagram came in.
 fn received(s: State, mem: &mut [u8], reply: usize, datagram: &[u8], v: [u64; 8]) -> State
     requires { ⌜ AsLeft s (now mem) × (reply ≤ 5000) ⌝ }
     ensures { λ r. ⌜ Goes s (now (mem .entry)) r (now (mem .exit)) ⌝ }
@@ -87,10 +89,10 @@ fn received(s: State, mem: &mut [u8], reply: usize, datagram: &[u8], v: [u64; 8]
     labelled_word(b" ", a.dropped);
     labelled_bytes(b" ", &room[..n]);
     end();
-    let r = a.state;
-    r
+    a.state
 }
 
+// An endpoint's time.
 fn tick(s: State, mem: &mut [u8], reply: usize, v: [u64; 8]) -> State
     requires { ⌜ AsLeft s (now mem) × (reply ≤ 5000) ⌝ }
     ensures { λ r. ⌜ Goes s (now (mem .entry)) r (now (mem .exit)) ⌝ }
@@ -102,10 +104,10 @@ fn tick(s: State, mem: &mut [u8], reply: usize, v: [u64; 8]) -> State
     labelled_size(b" ", n);
     labelled_bytes(b" ", &room[..n]);
     end();
-    let r = a.state;
-    r
+    a.state
 }
 
+// A payment of our own.
 fn pay(s: State, mem: &mut [u8], v: [u64; 8]) -> State
     requires { ⌜ AsLeft s (now mem) ⌝ }
     ensures { λ r. ⌜ Goes s (now (mem .entry)) r (now (mem .exit)) ⌝ }
@@ -122,10 +124,10 @@ fn pay(s: State, mem: &mut [u8], v: [u64; 8]) -> State
     );
     labelled_word(b"pay ", a.number);
     end();
-    let r = a.state;
-    r
+    a.state
 }
 
+// Only the reachable nodes stay.
 fn purge(s: State, mem: &[u8], v: [u64; 8]) -> State
     requires { ⌜ AsLeft s (now mem) ⌝ }
     ensures { λ r. ⌜ Goes s (now (mem .entry)) r (now (mem .entry)) ⌝ }
@@ -133,11 +135,10 @@ fn purge(s: State, mem: &[u8], v: [u64; 8]) -> State
     let a = change::purge(s, mem, v[0], randoms(v, 1));
     labelled_word(b"purge ", a.number);
     end();
-    let r = a.state;
-    r
+    a.state
 }
 
-// The call of the line, by the place of its name.
+// The call of the line, by the place of its name: begin, resume, receive, tick, pay, purge.
 pub fn change(
     which: usize,
     s: State,

@@ -4,7 +4,6 @@ use crate::words::count;
 use crate::words::word;
 use wire::order::is_same;
 ghost use Prim.Native.Nat.{_≤_};
-ghost use lib.ListN.{length};
 
 // A word as a number, if it is of its form.
 pub struct Value {
@@ -18,6 +17,7 @@ pub struct Fields {
     pub values: [u64; 8],
 }
 
+// No value.
 fn bad() -> Value
     ensures { λ r. ⌜ r .number ≤ 0 ⌝ }
 {

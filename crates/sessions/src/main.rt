@@ -1,4 +1,6 @@
 // Runs a session script from standard input, and writes what each line prints (reference/README.md, Session scripts).
+// Its file `stdin` has every script of reference/scripts: `blank` first, and before each other one a line that sets the lengths of what is lent as they
+// are at first. Its file `stdout` is what the reference writes for that.
 mod book;
 mod changing;
 mod fields;
@@ -40,7 +42,7 @@ fn run(window: &mut [u8], mem: &mut [u8], saved: &mut [u8])
     }
 }
 
-// What a line may have at most; the longest snapshot takes half of it.
+// Room for the longest line that is not cut: a snapshot of 33,319 bytes takes 66,638 digits.
 fn window_buffer() -> [u8; 131072]
     ensures { λ r. ⌜ 131072 ≡ length r ⌝ }
 {

@@ -16,6 +16,20 @@ ghost use Prim.Native.Nat.{ℕ, _≤_};
 ghost use lib.ListN.{length};
 ghost use Rattle.sessions.specs.Kept.{Running};
 
+// Places among the names of lines: calls that change state stand below CHANGING, those that sum or show below SHOWING, then `save`, `rooms`, `state`
+// and `totals`.
+const CHANGING: usize = 6;
+
+const SHOWING: usize = 10;
+
+const SAVE: usize = 10;
+
+const ROOMS: usize = 11;
+
+const TOTALS: usize = 13;
+
+const NAMES: usize = 14;
+
 // `saved` bytes are those of the last accepted save.
 pub struct Session {
     pub state: State,
@@ -25,6 +39,7 @@ pub struct Session {
     pub saved: usize,
 }
 
+// Before the first line.
 pub fn first() -> Session
     ensures { λ r. ⌜ ((m k : List ℕ) → 40000 ≤ length m → 40000 ≤ length k → Running r m k) ⌝ }
 {
@@ -87,7 +102,7 @@ fn saving(x: Session, mem: &[u8], saved: &mut [u8], clock: u64) -> Session
     r
 }
 
-// One line.
+// One line: the forms stand in the order of the names, a letter for each word behind the name.
 pub fn step(x: Session, mem: &mut [u8], saved: &mut [u8], line: &mut [u8]) -> Session
     requires { ⌜ Running x (now mem) (now saved) ⌝ }
     ensures { λ r. ⌜ Running r (now (mem .exit)) (now (saved .exit)) ⌝ }
@@ -96,13 +111,13 @@ pub fn step(x: Session, mem: &mut [u8], saved: &mut [u8], line: &mut [u8]) -> Se
     let forms = b"ncnnnn cnnnns cnknnnnh cnnnnn cnnannnn cnnnn cn c c n c ccc  h";
     let which = first_among(names, line);
     let f = read(line, forms, which);
-    if which == 14 {
+    if which == NAMES {
         return refused(x);
     }
     if !f.ok {
         return refused(x);
     }
-    if which == 13 {
+    if which == TOTALS {
         totals(line);
         return x;
     }
@@ -110,6 +125,7 @@ pub fn step(x: Session, mem: &mut [u8], saved: &mut [u8], line: &mut [u8]) -> Se
     run(which, x, mem, saved, line, v)
 }
 
+// The line at the place `which` among the names, with the values v behind its name.
 fn run(
     which: usize,
     x: Session,
@@ -123,20 +139,20 @@ fn run(
 {
     let t = x.table;
     let n = x.saved;
-    if which < 6 {
+    if which < CHANGING {
         let s = change(which, x.state, &mut mem[..t], x.reply, &saved[..n], line, v);
         let mut r = x;
         r.state = s;
         return r;
     }
-    if which < 10 {
+    if which < SHOWING {
         tell(which, x.state, &mem[..t], v);
         return x;
     }
-    if which == 10 {
+    if which == SAVE {
         return saving(x, mem, saved, v[0]);
     }
-    if which == 11 {
+    if which == ROOMS {
         return rooms(x, v);
     }
     state(x.state, mem);

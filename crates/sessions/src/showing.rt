@@ -15,6 +15,7 @@ ghost use Prim.Native.Nat.{_≤_};
 ghost use lib.ListN.{length};
 ghost use Rattle.ledger.specs.Promises.{AsLeft};
 
+// A total or a sum.
 fn summed(label: &[u8], a: Summed) {
     labelled_word(label, a.number);
     signed(a.value);
@@ -22,12 +23,14 @@ fn summed(label: &[u8], a: Summed) {
     end();
 }
 
+// Of one household.
 fn total(s: State, mem: &[u8], v: [u64; 8])
     requires { ⌜ AsLeft s (now mem) ⌝ }
 {
     summed(b"total ", sum::total(s, mem, v[0], small(v[1])));
 }
 
+// Of all households.
 fn sum(s: State, mem: &[u8], v: [u64; 8])
     requires { ⌜ AsLeft s (now mem) ⌝ }
 {
@@ -45,6 +48,7 @@ fn identifiers(nodes: [u32; 32], n: usize) {
     }
 }
 
+// The reachable nodes and the network digest.
 fn marks(s: State, mem: &[u8], v: [u64; 8])
     requires { ⌜ AsLeft s (now mem) ⌝ }
 {
@@ -62,6 +66,7 @@ fn marks(s: State, mem: &[u8], v: [u64; 8])
     end();
 }
 
+// One node's data.
 fn show(s: State, mem: &[u8], v: [u64; 8])
     requires { ⌜ AsLeft s (now mem) ⌝ }
 {
@@ -73,7 +78,7 @@ fn show(s: State, mem: &[u8], v: [u64; 8])
     end();
 }
 
-// The call of the line, by the place of its name.
+// The call of the line, by the place of its name: total, sum, marks, show.
 pub fn tell(which: usize, s: State, mem: &[u8], v: [u64; 8])
     requires { ⌜ AsLeft s (now mem) ⌝ }
 {

@@ -20,6 +20,7 @@ ghost use Rattle.table.specs.View.{Rows};
 ghost use Rattle.node.specs.View.{PeersRep};
 ghost use Rattle.ledger.specs.Promises.{AsLeft};
 
+// A node with its data.
 fn node(e: Entry, mem: &[u8])
     requires { ⌜ (e .slot < mostNodes) × ((e .len ≤ dataLimit) × (tableBytes ≤ length (now mem))) ⌝ }
 {
@@ -33,6 +34,7 @@ fn node(e: Entry, mem: &[u8])
     text(b"\n");
 }
 
+// All nodes, ascending.
 fn nodes(t: Table, mem: &[u8])
     requires { ⌜ Rows t × (tableBytes ≤ length (now mem)) ⌝ }
 {
@@ -44,6 +46,7 @@ fn nodes(t: Table, mem: &[u8])
     }
 }
 
+// A peer.
 fn peer(p: Peer) {
     labelled_word(b"peer node=", p.node);
     labelled_word(b" theirs=", p.theirs);
@@ -52,6 +55,7 @@ fn peer(p: Peer) {
     end();
 }
 
+// All peers, in the order in which they came.
 fn peers(p: Peers)
     requires { ⌜ PeersRep p ⌝ }
 {
@@ -63,6 +67,7 @@ fn peers(p: Peers)
     }
 }
 
+// An endpoint.
 fn endpoint(number: usize, e: Endpoint) {
     labelled_size(b"endpoint ", number);
     let t = e.trickle;
@@ -80,6 +85,7 @@ fn endpoint(number: usize, e: Endpoint) {
     end();
 }
 
+// All endpoints.
 fn endpoints(es: [Endpoint; 4]) {
     let mut i = 0;
     while i < 4 {
@@ -88,6 +94,7 @@ fn endpoints(es: [Endpoint; 4]) {
     }
 }
 
+// The whole state.
 pub fn state(s: State, mem: &[u8])
     requires { ⌜ AsLeft s (now mem) × (tableBytes ≤ length (now mem)) ⌝ }
 {

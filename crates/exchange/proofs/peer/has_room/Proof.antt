@@ -1,4 +1,3 @@
-use native.Mathlib.Omega.{arith}
 use Rattle.exchange.proofs.peer.has_room.Statement.{statement}
 use Rattle.exchange.proofs.peer.has_room.Tie as tie
 use Rattle.exchange.proofs.Peers.{room-many, room-full, room-left}

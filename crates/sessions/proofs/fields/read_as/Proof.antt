@@ -2,7 +2,6 @@ use Rattle.sessions.proofs.fields.read_as.Statement.{statement}
 use Rattle.sessions.proofs.fields.read_as.Tie as tie
 use Prim.Native.Nat.{_-_, _≤_}
 use lib.ListN.{length}
-use native.Mathlib.Omega.{arith}
 use borrow.Author.Needs.{needs}
 
 abbrev Inv-loop : tie.InvT-loop

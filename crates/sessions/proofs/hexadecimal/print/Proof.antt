@@ -1,7 +1,7 @@
 use Rattle.sessions.proofs.hexadecimal.print.Statement.{statement}
 use Rattle.sessions.proofs.hexadecimal.print.Tie as tie
 use Prim.Native.Nat.{_-_, _≤_}
-use lib.ListN.{length, drop, length-take}
+use lib.ListN.{length, length-take}
 use native.Mathlib.Omega.{arith}
 use borrow.Author.Needs.{needs}
 

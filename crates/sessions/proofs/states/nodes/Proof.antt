@@ -1,7 +1,6 @@
 use Rattle.sessions.proofs.states.nodes.Statement.{statement}
 use Rattle.sessions.proofs.states.nodes.Tie as tie
 use Prim.Native.Nat.{_-_, _≤_}
-use native.Mathlib.Omega.{arith}
 use borrow.Author.Needs.{needs}
 
 abbrev Inv-loop : tie.InvT-loop

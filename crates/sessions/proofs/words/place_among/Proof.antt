@@ -1,8 +1,6 @@
 use Rattle.sessions.proofs.words.place_among.Statement.{statement}
 use Rattle.sessions.proofs.words.place_among.Tie as tie
 use Prim.Native.Nat.{_-_, _≤_}
-use lib.ListN.{length}
-use native.Mathlib.Omega.{arith}
 use borrow.Author.Needs.{needs}
 
 abbrev Inv-loop : tie.InvT-loop
