@@ -11,3 +11,4 @@ pub mod Shown
 pub mod Premises
 pub mod Chains
 pub mod Deliveries
+pub mod Returns

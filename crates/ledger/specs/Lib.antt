@@ -1,3 +1,4 @@
 pub mod Promises
 pub mod Inner
 pub mod Demands
+pub mod Returning

@@ -1,0 +1,69 @@
+-- What is saved comes back: the model's theorem, carried over to the promises of `save` and `resume`. Assumes nothing.
+use mathlib.Core.Path.{_≡_, refl, sym, ap, _∙_}
+use mathlib.Core.List.{List, [], _∷_}
+use mathlib.Core.Option.{Option, some}
+use Prim.Native.Nat.{ℕ, _≤_}
+use native.Mathlib.Omega.{arith}
+use lib.ListN.{length, take}
+use Rattle.base.specs.Lists.{orElse}
+use Rattle.model.specs.Figures.{tableBytes, lastReading, snapshotBytes}
+use Rattle.model.specs.Refusals.{firstOf, late, smallTable}
+use Rattle.model.specs.State.{State as ModelState}
+use Rattle.model.specs.Begin.{Done as ModelDone}
+use Rattle.model.specs.Snapshot.{Snapshot, Saved as ModelSaved, saved, refusalSave, save, load, noSnapshot, resumed, refusalResume, resume}
+use Rattle.model.proofs.Refusals.{refusals-exact}
+use Rattle.model.proofs.Snapshots.{snapshots}
+use Rattle.table.specs.View.{view}
+use Rattle.node.specs.View.{stateOf}
+use Rattle.node.specs.declared.State.{State}
+use Rattle.ledger.specs.declared.answers.Done.{Done}
+use Rattle.ledger.specs.declared.answers.Saved.{Saved}
+use Rattle.ledger.specs.Promises.{AsLeft, Resumes, Saves}
+use Rattle.ledger.specs.Returning.{bookOf, SavedComesBack}
+use Rattle.ledger.proofs.Left.{room-accepted}
+use Rattle.ledger.proofs.Answering.{as-accepted}
+use Rattle.ledger.proofs.Numbers.{start-fine, goes-late}
+
+-- ---- saved
+
+module _ (clock : ℕ) (s : State) (m q : List ℕ) (r : Saved) (q′ : List ℕ) (l : AsLeft s m) (h : Saves clock s m q r q′) (z : r .number ≡ 0) where
+  number-is : r .number ≡ refusalSave clock (length m) (length q) (stateOf s m)
+  number-is = ap (λ (x : ModelSaved). x .number) (h .is) ∙ refusals-exact .saves clock (length m) (length q) (stateOf s m) .answered
+
+  written : take (r .length) q′ ≡ saved (s .own) clock (view (s .table) m)
+  unfolding save stateOf
+  written =
+      ap (λ (x : ModelSaved). x .bytes)
+      (h .is ∙ sym (as-accepted (r .number) (refusalSave clock (length m) (length q) (stateOf s m)) number-is (record { number = 0; bytes = saved (s .own) clock (view (s .table) m) }) (λ k. record { number = k; bytes = [] }) z))
+
+  loads : (later : ℕ) → load later (take (r .length) q′) ≡ some (bookOf clock later s m)
+  unfolding stateOf
+  loads later =
+      ap (load later) written
+      ∙ snapshots .back (stateOf s m) clock later (l .valid (room-accepted clock (stateOf s m) (length m) (length q) snapshotBytes (sym number-is ∙ z) .1 .1 .0))
+
+-- ---- resumed
+
+module _ (later : ℕ) (bytes rs : List ℕ) (table : ℕ) (v : ModelState) (b : Snapshot) (fine : later ≤ lastReading) (room : tableBytes ≤ table) (e : load later bytes ≡ some b) where
+  read : 0 ≡ firstOf (noSnapshot later bytes ∷ [])
+  read = rw e refl
+
+  not-refused : 0 ≡ refusalResume later bytes table
+  not-refused = goes-late (late later ∷ smallTable table ∷ []) (noSnapshot later bytes ∷ []) 0 (start-fine later table fine room) (omega arith) refl 0 read
+
+  resume-is : resume later bytes rs table v ≡ record { number = 0; state = resumed later rs b }
+  unfolding resume
+  resume-is =
+      sym (as-accepted 0 (refusalResume later bytes table) not-refused (record { number = 0; state = orElse (load later bytes) v (resumed later rs) }) (λ k. record { number = k; state = v }) refl)
+      ∙ ap (λ (o : Option Snapshot). record { number = 0; state = orElse o v (resumed later rs) }) e
+
+resumes : (clock later : ℕ) (rs : List ℕ) (s : State) (m q : List ℕ) (r : Saved) (q′ : List ℕ) → AsLeft s m → Saves clock s m q r q′ → r .number ≡ 0
+    → later ≤ lastReading → (u : State) (n : List ℕ) (d : Done) (n′ : List ℕ) → tableBytes ≤ length n → Resumes (take (r .length) q′) later rs u n d n′
+    → (d .number ≡ 0) × (stateOf (d .state) n′ ≡ resumed later rs (bookOf clock later s m))
+resumes clock later rs s m q r q′ l h z fine u n d n′ room g =
+    let e : _≡_ {A = ModelDone} (record { number = d .number; state = stateOf (d .state) n′ }) (record { number = 0; state = resumed later rs (bookOf clock later s m) }) =
+    g .is ∙ resume-is later (take (r .length) q′) rs (length n) (stateOf u n) (bookOf clock later s m) fine room (loads clock s m q r q′ l h z later) in
+    (ap (λ (x : ModelDone). x .number) e, ap (λ (x : ModelDone). x .state) e)
+
+pub saved-comes-back : SavedComesBack
+saved-comes-back = record { loads = λ clock later s m q r q′ l h z. loads clock s m q r q′ l h z later; resumes = resumes }
