@@ -13,7 +13,7 @@ use borrow.Author.Count.{below-more}
 use borrow.Author.Tests.{eq-eqb, ne-eqb}
 use Rattle.base.specs.Lists.{any, keep, keepBy}
 use Rattle.base.specs.Sorted.{Above, Ascending}
-use Rattle.base.proofs.Tests.{by-test, by-order}
+use Rattle.base.proofs.Tests.{by-test, by-order, no-way}
 use Rattle.base.proofs.Places.{above-at}
 
 -- the mark at a place: of those turned round, where none is set, and of those after the first
@@ -26,6 +26,13 @@ pub none-set : (n i : ℕ) → getD (replicate n false) i false ≡ false
 none-set zero i = refl
 none-set (suc n) zero = refl
 none-set (suc n) (suc i) = none-set n i
+
+-- none is set
+pub none-at : (bs : List Bool) → any (λ b. b) bs ≡ false → (i : ℕ) → getD bs i false ≡ false
+none-at [] h i = refl
+none-at (true ∷ bs) h i = no-way true refl h
+none-at (false ∷ bs) h zero = refl
+none-at (false ∷ bs) h (suc i) = none-at bs h i
 
 tail-at : (bs : List Bool) (i : ℕ) → getD (drop 1 bs) i false ≡ getD bs (suc i) false
 tail-at [] i = refl
@@ -57,6 +64,15 @@ module _ {A : Type 0} where
   keep-by-none bs [] h = keep-by-nil bs
   keep-by-none bs (x ∷ l) h =
       keep-by-head bs x l ∙ rw (h 0 (suc-le-suc zero-le)) (keep-by-none (drop 1 bs) l (λ i k. tail-at bs i ∙ h (suc i) (suc-le-suc k)))
+
+  -- one is set, and none past the end
+  pub keep-by-some : (bs : List Bool) (l : List A) → ((i : ℕ) → length l ≤ i → getD bs i false ≡ false) → any (λ b. b) bs ≡ true → 0 < length (keepBy bs l)
+  keep-by-some [] l h s = no-way false s refl
+  keep-by-some (b ∷ bs) [] h s =
+      let r : 0 < length (keepBy {A = A} bs []) = keep-by-some bs [] (λ i p. h (suc i) zero-le) (rw (h 0 zero-le) at s) in
+      rw (keep-by-nil bs) at r
+  keep-by-some (true ∷ bs) (x ∷ l) h s = suc-le-suc zero-le
+  keep-by-some (false ∷ bs) (x ∷ l) h s = keep-by-some bs l (λ i p. h (suc i) (suc-le-suc p)) s
 
   -- the first element of `any-either`
   either-head : (f : A → Bool) (x : A) (b c : Bool) (j k l : List A) → any f l ≡ any f j || any f k

@@ -1,27 +1,24 @@
 -- The nodes at the places of the table as the marking sees them. Assumes nothing.
-use mathlib.Core.Path.{_≡_, refl, sym, ap, _∙_}
-use mathlib.Core.Bool.{Bool, true, false, _&&_, _||_, and-false}
+use mathlib.Core.Path.{_≡_, refl, ap, _∙_}
+use mathlib.Core.Bool.{Bool, true, false, _&&_}
 use mathlib.Core.List.{List, [], _∷_}
 use Prim.Native.Nat.{ℕ, zero, suc, _+_, _-_, _≤_, _<_}
 use native.Mathlib.Nat.{not-suc-le-zero, le-of-suc-le-suc}
 use native.Mathlib.Omega.{arith}
-use lib.ListN.{length, getD, drop, length-map}
+use lib.ListN.{length, getD, length-map}
 use borrow.Author.Tests.{lt-ltb, le-ltb}
-use Rattle.base.specs.Lists.{keepBy}
-use Rattle.base.proofs.Tests.{by-test}
 use Rattle.wire.specs.Row.{isRow}
 use Rattle.wire.specs.Order.{good}
 use Rattle.wire.proofs.Good.{good-row}
 use Rattle.model.specs.Figures.{mostNodes, dataLimit, tableBytes, ageLimit, mostAge, lastReading}
 use Rattle.model.specs.Table.{Entry, Statement, underAge}
-use Rattle.model.specs.Reach.{Vertex, vertices, joined, touched}
+use Rattle.model.specs.Reach.{Vertex, vertices, joined}
 use Rattle.model.specs.Invariant.{EntryFits, TableFits}
 use Rattle.table.specs.declared.Table.{Table}
 use Rattle.table.specs.declared.Entry.{Entry as Row}
 use Rattle.table.specs.View.{blank, rowAt, dataOf, seen, view, FitRow, Rows, Kept, Read}
-use Rattle.table.proofs.Rows.{view-length, view-at, view-each}
-use Rattle.base.proofs.Marks.{keep-by-end, keep-by-next}
-use Rattle.reach.specs.Marks.{joins, Readable, noVertex, Leads}
+use Rattle.table.proofs.Rows.{row-read, view-length, view-at, view-each}
+use Rattle.reach.specs.Marks.{joins, Readable, Legible, noVertex, leads}
 use Rattle.reach.specs.Parts.{Front}
 use Rattle.reach.proofs.Fronts.{joins-front}
 
@@ -42,74 +39,62 @@ vertex-at now (e ∷ t) (suc i) d p = vertex-at now t i d (le-of-suc-le-suc p)
 pub vertices-length : (now : ℕ) (t : List Entry) → length (vertices now t) ≡ length t
 vertices-length now t = length-map t (vertexOf now)
 
+-- the node at place r is young, and joined to that at place v
+abbrev pub leadsAt : ℕ → List Entry → ℕ → ℕ → Bool
+leadsAt now t r v =
+    getD (vertices now t) r noVertex .young && joined (getD (vertices now t) r noVertex .says) (getD (vertices now t) v noVertex .says)
+
 -- who is joined depends on identifiers and data alone
 joins-says : (r n : Statement) → joins (r .node) (r .nodeData) (n .node) (n .nodeData) ≡ joined r n
 unfolding joined
 joins-says r n = refl
 
-module _ (clock : ℕ) (t : Table) (m : List ℕ) (g : Readable clock t m) where
-  module _ (i : ℕ) (p : i < t .count) where
-    seen-at : getD (view t m) i (seen m blank) ≡ seen m (rowAt t i)
-    seen-at = view-at t (g .kept .rows) m i p
+-- ---- a row
 
-    inside : i < length (view t m)
-    inside = rw (view-length t (g .kept .rows) m) p
+module _ (clock : ℕ) (m : List ℕ) (e : Row) (g : Legible clock m e) where
+  -- what `age_at` asks of it
+  pub row-age : (e .since ≤ clock) × ((e .age ≤ mostAge) × (clock ≤ lastReading))
+  row-age = (g .entry .since, (g .entry .age, g .clock))
 
-    node-at : getD (vertices clock (view t m)) i noVertex ≡ vertexOf clock (seen m (rowAt t i))
-    node-at = vertex-at clock (view t m) i (seen m blank) inside ∙ ap (vertexOf clock) seen-at
+  -- what `front_of` asks of it: its data is good
+  pub front-asks : FitRow e × ((tableBytes ≤ length m) × (good dataLimit (dataOf m e) ≡ true))
+  front-asks = (g .fit, (g .room, g .entry .fine))
 
-    fits-at : EntryFits clock (seen m (rowAt t i))
-    fits-at = view-each t (g .kept .rows) (EntryFits clock) m i (g .entries) p
+module _ (clock : ℕ) (m : List ℕ) (e f : Row) (a : ℕ) (w : a ≡ e .age + (clock - e .since)) where
+  pub old-leads : ageLimit ≤ a → leads clock (seen m e) (seen m f) ≡ false
+  old-leads l = rw (le-ltb (e .age + (clock - e .since)) ageLimit (omega arith))
 
-    -- what `age_at` asks of a row that was read
-    pub age-fits : (e : Row) → Read t i e → (e .since ≤ clock) × ((e .age ≤ mostAge) × (clock ≤ lastReading))
-    age-fits e o = rw (o .same) (fits-at .since, (fits-at .age, g .clock))
-
-    -- what `front_of` asks of it: its data is good
-    pub front-asks : (e : Row) → Read t i e → FitRow e × ((tableBytes ≤ length m) × (good dataLimit (dataOf m e) ≡ true))
-    front-asks e o = ((o .low, o .short), (g .kept .room, rw (o .same) (fits-at .fine)))
-
-    -- its data is a row
-    pub data-row : (x : List ℕ) → x ≡ dataOf m (rowAt t i) → isRow x ≡ true
-    data-row x e = rw e (good-row dataLimit (dataOf m (rowAt t i)) (fits-at .fine))
-
-  module _ (r v : ℕ) (p : r < t .count) (q : v < t .count) (e : Row) (o : Read t r e) (a : ℕ) (w : a ≡ e .age + (clock - e .since)) where
-    age-is : a ≡ rowAt t r .age + (clock - rowAt t r .since)
-    age-is = w ∙ rw (o .same)
-
-    pub old-leads : ageLimit ≤ a → Leads clock (view t m) r v ≡ false
-    old-leads l = rw (node-at r p, le-ltb (rowAt t r .age + (clock - rowAt t r .since)) ageLimit (omega (arith, age-is)))
-
-    pub young-leads : a < ageLimit → (f : Row) → Read t v f → (x y : List ℕ) → Front (dataOf m e) x → Front (dataOf m f) y → {b : Bool} → b ≡ joins (e .id) x (f .id) y → b ≡ Leads clock (view t m) r v
-    young-leads l f u x y fx fy j =
-        rw (node-at r p, node-at v q, lt-ltb (rowAt t r .age + (clock - rowAt t r .since)) ageLimit (omega (arith, age-is)))
-        (j ∙ joins-front (e .id) (f .id) (dataOf m e) x (dataOf m f) y fx fy ∙ rw (o .same, u .same) (joins-says (seen m (rowAt t r) .says) (seen m (rowAt t v) .says)))
+  pub young-leads : a < ageLimit → (x y : List ℕ) → Front (dataOf m e) x → Front (dataOf m f) y → {b : Bool} → b ≡ joins (e .id) x (f .id) y → b ≡ leads clock (seen m e) (seen m f)
+  young-leads l x y fx fy j =
+      rw (lt-ltb (e .age + (clock - e .since)) ageLimit (omega arith))
+      (j ∙ joins-front (e .id) (f .id) (dataOf m e) x (dataOf m f) y fx fy ∙ joins-says (seen m e .says) (seen m f .says))
 
 pub few-nodes : (t : Table) (m : List ℕ) → Rows t → length (view t m) ≤ mostNodes
 few-nodes t m k = rw (view-length t k m) (k .most)
 
--- ---- the nodes of a level, from place r on
+-- ---- the row at a place
 
--- one of them leads to the node at place v
-abbrev pub touchedFrom : ℕ → List Entry → List Bool → ℕ → ℕ → Bool
-touchedFrom now t level v r = touched (keepBy (drop r level) (drop r (vertices now t))) (getD (vertices now t) v noVertex)
+pub held : (t : Table) (m : List ℕ) → Rows t → (i : ℕ) → i < t .count → i < length (view t m)
+held t m k i p = rw (view-length t k m) p
 
-module _ (now : ℕ) (t : List Entry) (level : List Bool) (v r : ℕ) where
-  pub touched-end : length t ≤ r → touchedFrom now t level v r ≡ false
-  unfolding touched
-  touched-end p = rw (keep-by-end level (vertices now t) r (rw (vertices-length now t) p))
+module _ (clock : ℕ) (t : Table) (m : List ℕ) (g : Readable clock t m) where
+  module _ (i : ℕ) (p : i < t .count) where
+    node-at : getD (vertices clock (view t m)) i noVertex ≡ vertexOf clock (seen m (rowAt t i))
+    node-at = vertex-at clock (view t m) i (seen m blank) (held t m (g .kept .rows) i p) ∙ ap (vertexOf clock) (view-at t (g .kept .rows) m i p)
 
-  module _ (p : r < length t) where
-    touched-next : touchedFrom now t level v r ≡ (getD level r false && Leads now t r v) || touchedFrom now t level v (r + 1)
-    unfolding touched
-    touched-next =
-        rw (keep-by-next noVertex level (vertices now t) r (rw (vertices-length now t) p)) (by-test (getD level r false) (λ e. rw e) (λ e. rw e))
+    pub legible-at : Legible clock m (rowAt t i)
+    legible-at =
+        let f : Read t i (rowAt t i) = row-read t i (g .kept .rows) p in
+        record { fit = (f .low, f .short); room = g .kept .room; entry = view-each t (g .kept .rows) (EntryFits clock) m i (g .entries) p; clock = g .clock }
 
-    pub touched-here : getD level r false ≡ true → {b : Bool} → b ≡ Leads now t r v → b ≡ true → touchedFrom now t level v r ≡ true
-    touched-here m e l = touched-next ∙ rw (m, sym e ∙ l)
+    -- what `age_at` asks of it, once it was read
+    pub age-fits : (e : Row) → Read t i e → (e .since ≤ clock) × ((e .age ≤ mostAge) × (clock ≤ lastReading))
+    age-fits e o = rw (o .same) (row-age clock m (rowAt t i) legible-at)
 
-    pub unmarked-on : getD level r false ≡ false → touchedFrom now t level v r ≡ touchedFrom now t level v (r + 1)
-    unmarked-on m = touched-next ∙ rw m
+    -- its data is a row
+    pub data-row : (x : List ℕ) → x ≡ dataOf m (rowAt t i) → isRow x ≡ true
+    data-row x e = rw e (good-row dataLimit (dataOf m (rowAt t i)) (legible-at .entry .fine))
 
-    pub unled-on : {b : Bool} → b ≡ Leads now t r v → b ≡ false → touchedFrom now t level v r ≡ touchedFrom now t level v (r + 1)
-    unled-on e l = touched-next ∙ rw (sym e ∙ l, and-false (getD level r false))
+  -- whether the row at place r leads to that at place v
+  pub leads-at : (r v : ℕ) → r < t .count → v < t .count → leads clock (seen m (rowAt t r)) (seen m (rowAt t v)) ≡ leadsAt clock (view t m) r v
+  leads-at r v p q = rw (node-at r p, node-at v q)

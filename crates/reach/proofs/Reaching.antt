@@ -14,13 +14,14 @@ use Rattle.model.specs.Figures.{mostNodes}
 use Rattle.model.specs.Table.{Entry, idOf, look, statements}
 use Rattle.model.specs.Digest.{digestOf, networkDigest}
 use Rattle.model.specs.State.{noEntry}
-use Rattle.model.specs.Reach.{Vertex, vertices, isNode, levelsFrom, level0, others, levels, met, marked, inReach, reached}
+use Rattle.model.specs.Reach.{Vertex, vertices, isNode, level0, others, levels, met, marked, inReach, reached}
 use Rattle.table.specs.declared.Table.{Table}
 use Rattle.table.specs.declared.Found.{Found}
 use Rattle.table.specs.declared.Found.the-variants.{At, Missing}
 use Rattle.table.specs.View.{blank, seen, view, Rows, Stands, Gap, Finding}
 use Rattle.table.proofs.Rows.{view-length, view-at, view-ascending, look-gap}
-use Rattle.reach.specs.Marks.{markedOf, noVertex, Spread, Marking}
+use Rattle.reach.specs.declared.mark.Marked.{Marked}
+use Rattle.reach.specs.Marks.{markedOf, noVertex, levelsAfter, Spread, Marking, Levelled}
 use Rattle.reach.proofs.Nodes.{vertex-at, vertices-length, few-nodes}
 use Rattle.base.proofs.Marks.{not-at, keep-by-places, marked-at, alone-at}
 use Rattle.reach.proofs.Waves.{levels-enough}
@@ -58,19 +59,27 @@ module _ (own now : ℕ) (t : List Entry) (a : Ascending idOf t) (few : length t
         (λ j q. not-at first j (omega (arith, wide, vertices-length now t)) ∙ ap not (own-at j q))
 
     -- what the levels reach is what the definition reaches
-    all-found : (n : ℕ) → any (isNode n) (markedOf now t first ++ joinAll (levelsFrom (length t) (keepBy (map not first) (vertices now t)) (markedOf now t first))) ≡ inReach own now t n
-    unfolding inReach marked met levels
-    all-found n =
+    all-levels : levelsAfter now t first ≡ levels own (vertices now t)
+    unfolding levels
+    all-levels =
         let l : length (keep (isNode own) (vertices now t)) + length (others own (vertices now t)) ≡ length (vertices now t) = keep-length (isNode own) (vertices now t) in
         rw (first-level, first-rest, levels-enough (length t) (length (others own (vertices now t))) (others own (vertices now t)) (level0 own (vertices now t)) (omega (arith, vertices-length now t)) (omega arith))
 
-    marking : (marks : List Bool) → Spread now t first marks → Marking own now t marks
-    marking marks s =
+    all-found : (n : ℕ) → any (isNode n) (markedOf now t first ++ joinAll (levelsAfter now t first)) ≡ inReach own now t n
+    unfolding inReach marked met
+    all-found n = rw (all-levels, first-level)
+
+    levelled : (r : Marked) → Spread now t first r → Levelled own now t r
+    levelled r s =
         record {
-          wide = s .wide;
-          each = λ j q.
-              sym (marked-at nodeOf noVertex marks (vertices now t) j (nodes-ascend now t a) (rw (vertices-length now t) q))
-              ∙ ap (λ (n : ℕ). any (isNode n) (markedOf now t marks)) (node-is j q) ∙ s .each (idOf (getD t j noEntry)) ∙ all-found (idOf (getD t j noEntry));
+          marks =
+              record {
+                wide = s .wide;
+                each = λ j q.
+                    sym (marked-at nodeOf noVertex (r .marks) (vertices now t) j (nodes-ascend now t a) (rw (vertices-length now t) q))
+                    ∙ ap (λ (n : ℕ). any (isNode n) (markedOf now t (r .marks))) (node-is j q) ∙ s .each (idOf (getD t j noEntry)) ∙ all-found (idOf (getD t j noEntry));
+              };
+          count = s .count ∙ ap length all-levels;
         }
 
 -- ---- as the code finds our own node
@@ -85,12 +94,12 @@ module _ (t : Table) (m : List ℕ) (k : Rows t) (own : ℕ) (f : Found) (h : Fi
       let g : Gap t own i = rw e at h in
       no-way (isSome (look own (view t m))) s (ap isSome (look-gap t k own i m g))
 
-pub mark-by : (own clock : ℕ) (t : Table) (m : List ℕ) → Rows t → (i : ℕ) → Stands t own i → (first marks : List Bool) → first ≡ set (replicate mostNodes false) i true
-    → Spread clock (view t m) first marks → Marking own clock (view t m) marks
-mark-by own clock t m k i s first marks f g =
+pub mark-by : (own clock : ℕ) (t : Table) (m : List ℕ) → Rows t → (i : ℕ) → Stands t own i → (first : List Bool) (r : Marked) → first ≡ set (replicate mostNodes false) i true
+    → Spread clock (view t m) first r → Levelled own clock (view t m) r
+mark-by own clock t m k i s first r f g =
     let p : i < length (view t m) = rw (view-length t k m) (s .at) in
-    marking own clock (view t m) (view-ascending t k m) (few-nodes t m k) i p
-    (ap idOf (getD-any (view t m) i noEntry (seen m blank) p ∙ view-at t k m i (s .at)) ∙ s .named) first f marks g
+    levelled own clock (view t m) (view-ascending t k m) (few-nodes t m k) i p
+    (ap idOf (getD-any (view t m) i noEntry (seen m blank) p ∙ view-at t k m i (s .at)) ∙ s .named) first f r g
 
 -- ---- the marked entries are those in reach
 

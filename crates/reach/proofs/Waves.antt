@@ -7,13 +7,14 @@ use native.Mathlib.Nat.{not-suc-le-zero}
 use native.Mathlib.Omega.{arith}
 use lib.ListN.{length, getD}
 use Rattle.base.specs.Lists.{any, keep, keepBy, joinAll}
+use Rattle.base.proofs.Tests.{no-way}
 use Rattle.base.proofs.Lists.{keep-length, any-joined, keep-never}
 use Rattle.model.specs.Figures.{mostNodes}
 use Rattle.model.specs.Table.{Entry}
 use Rattle.model.specs.Reach.{Vertex, vertices, touched, isNode, nonEmpty, levelsFrom}
 use Rattle.reach.specs.declared.mark.Wave.{Wave}
-use Rattle.reach.specs.Marks.{Wide, markedOf, noVertex, NextLevel, Onward, Spread}
-use Rattle.base.proofs.Marks.{not-at, any-either, keep-by-none, keep-by-both, keep-by-length}
+use Rattle.reach.specs.Marks.{Wide, markedOf, noVertex, NextLevel, Onward, levelsAfter, Spread}
+use Rattle.base.proofs.Marks.{not-at, none-at, any-either, keep-by-none, keep-by-some, keep-by-both, keep-by-length}
 use Rattle.reach.proofs.Nodes.{vertices-length}
 
 -- ---- levels
@@ -46,6 +47,16 @@ levels-enough (suc f) (suc g) rest level p q =
     some-more (keep (touched level) rest) _ _
     (λ h. levels-enough f g (keep (λ v. not (touched level v)) rest) (keep (touched level) rest) (omega arith) (omega arith))
 
+-- how many levels there are: one more than after the next, which is not empty
+levels-on : (f : ℕ) (rest level : List Vertex) → 0 < length (keep (touched level) rest)
+    → length (levelsFrom (suc f) rest level) ≡ suc (length (levelsFrom f (keep (λ v. not (touched level v)) rest) (keep (touched level) rest)))
+unfolding levelsFrom
+levels-on f rest level p = more (keep (touched level) rest) (levelsFrom f (keep (λ v. not (touched level v)) rest) (keep (touched level) rest)) p
+  where
+    more : (l : List Vertex) (m : List (List Vertex)) → 0 < length l → length (nonEmpty l m) ≡ suc (length m)
+    more [] m q = absurd (not-suc-le-zero q)
+    more (v ∷ l) m q = refl
+
 -- the nodes of the next level, and of those after it
 found-more : (n : ℕ) (l : List Vertex) (more : List (List Vertex)) → (l ≡ [] → more ≡ []) → any (isNode n) (joinAll (nonEmpty l more)) ≡ any (isNode n) l || any (isNode n) (joinAll more)
 found-more n [] more h = rw (h refl)
@@ -65,23 +76,32 @@ abbrev pub foundFrom : ℕ → List Entry → ℕ → List Bool → List Bool �
 foundFrom now t f met level n =
     any (isNode n) (markedOf now t met) || any (isNode n) (joinAll (levelsFrom f (keepBy (map not met) (vertices now t)) (markedOf now t level)))
 
+-- the levels after the last
+abbrev levelsLeft : ℕ → List Entry → ℕ → List Bool → List Bool → List (List Vertex)
+levelsLeft now t f met level = levelsFrom f (keepBy (map not met) (vertices now t)) (markedOf now t level)
+
 unmet : (a b : Bool) → not (a || (not a && b)) ≡ not a && not b
 unmet true b = refl
 unmet false b = refl
 
 module _ (now : ℕ) (t : List Entry) (s : length t ≤ mostNodes) where
   -- at first
-  found-start : (first : List Bool) (n : ℕ)
-      → any (isNode n) (markedOf now t first ++ joinAll (levelsFrom (length t) (keepBy (map not first) (vertices now t)) (markedOf now t first))) ≡ foundFrom now t mostNodes first first n
-  found-start first n =
+  all-left : (first : List Bool) → levelsAfter now t first ≡ levelsLeft now t mostNodes first first
+  all-left first =
       let l : length (keepBy (map not first) (vertices now t)) ≤ length t = rw (← vertices-length now t) (keep-by-length (map not first) (vertices now t)) in
-      any-joined (isNode n) (markedOf now t first) (joinAll (levelsFrom (length t) (keepBy (map not first) (vertices now t)) (markedOf now t first)))
-      ∙ rw (levels-enough (length t) mostNodes (keepBy (map not first) (vertices now t)) (markedOf now t first) l (omega arith))
+      levels-enough (length t) mostNodes (keepBy (map not first) (vertices now t)) (markedOf now t first) l (omega arith)
+
+  found-start : (first : List Bool) (n : ℕ) → any (isNode n) (markedOf now t first ++ joinAll (levelsAfter now t first)) ≡ foundFrom now t mostNodes first first n
+  found-start first n = any-joined (isNode n) (markedOf now t first) (joinAll (levelsAfter now t first)) ∙ rw (all-left first)
 
   -- no level is left
   found-end : (met level : List Bool) (n : ℕ) → foundFrom now t 0 met level n ≡ any (isNode n) (markedOf now t met)
   unfolding levelsFrom
   found-end met level n = or-false (any (isNode n) (markedOf now t met))
+
+  none-left : (met level : List Bool) → length (levelsLeft now t 0 met level) ≡ 0
+  unfolding levelsFrom
+  none-left met level = refl
 
   module _ (level met next : List Bool) (w : Wide met) (e : NextLevel now t level met next) where
     inside : (i : ℕ) → i < length (vertices now t) → i < mostNodes
@@ -97,10 +117,16 @@ module _ (now : ℕ) (t : List Entry) (s : length t ≤ mostNodes) where
     next-kept = keep-by-both noVertex (touched (markedOf now t level)) (map not met) next (vertices now t) (λ i p. rw (met-at i p) (next-at i p))
 
     -- the next level adds nothing
-    found-stop : ((i : ℕ) → i < mostNodes → getD next i false ≡ false) → (f n : ℕ) → foundFrom now t f met level n ≡ any (isNode n) (markedOf now t met)
-    found-stop h f n =
-        let z : markedOf now t next ≡ [] = keep-by-none next (vertices now t) (λ i p. h i (inside i p)) in
-        rw (levels-stop f (keepBy (map not met) (vertices now t)) (markedOf now t level) (sym next-kept ∙ z)) (or-false (any (isNode n) (markedOf now t met)))
+    module _ (h : any (λ b. b) next ≡ false) (f : ℕ) where
+      left-stop : levelsLeft now t f met level ≡ []
+      left-stop = levels-stop f (keepBy (map not met) (vertices now t)) (markedOf now t level) (sym next-kept ∙ keep-by-none next (vertices now t) (λ i p. none-at next h i))
+
+      found-stop : (n : ℕ) → foundFrom now t f met level n ≡ any (isNode n) (markedOf now t met)
+      found-stop n = rw left-stop (or-false (any (isNode n) (markedOf now t met)))
+
+    -- or something
+    next-some : any (λ b. b) next ≡ true → 0 < length (keep (touched (markedOf now t level)) (keepBy (map not met) (vertices now t)))
+    next-some h = rw next-kept at (keep-by-some next (vertices now t) (λ i p. e .beyond i (rw (vertices-length now t) at p)) h)
 
     module _ (all : List Bool) (v : Wide all) (o : (i : ℕ) → i < mostNodes → getD all i false ≡ getD met i false || getD next i false) where
       rest-kept : keepBy (map not all) (vertices now t) ≡ keep (λ v. not (touched (markedOf now t level) v)) (keepBy (map not met) (vertices now t))
@@ -114,22 +140,38 @@ module _ (now : ℕ) (t : List Entry) (s : length t ≤ mostNodes) where
           rw (found-next n f (keepBy (map not met) (vertices now t)) (markedOf now t level), ← next-kept, ← rest-kept, any-either (isNode n) met next all (vertices now t) (λ i p. o i (inside i p)))
           (sym (or-assoc (any (isNode n) (markedOf now t met)) (any (isNode n) (markedOf now t next)) _))
 
+      left-on : any (λ b. b) next ≡ true → (f : ℕ) → length (levelsLeft now t (suc f) met level) ≡ suc (length (levelsLeft now t f all next))
+      left-on h f = rw (next-kept, rest-kept) (levels-on f (keepBy (map not met) (vertices now t)) (markedOf now t level) (next-some h))
+
+-- ---- as the code tests for it
+
+none-set : (b : Bool) {r : Bool} → r ≡ not b → r ≡ true → b ≡ false
+none-set true e h = no-way true refl (sym h ∙ e)
+none-set false e h = refl
+
+one-set : (b : Bool) {r : Bool} → r ≡ not b → r ≡ false → b ≡ true
+one-set true e h = refl
+one-set false e h = no-way true refl (sym e ∙ h)
+
 -- ---- the marking so far: k levels are passed, and what is met and what is still to be found are all there is
 
 pub record Waving (now : ℕ) (t : List Entry) (first : List Bool) (k : ℕ) (met level : List Bool) : Type 0 where
   pub few : k ≤ mostNodes
   pub wide : Wide met
-  pub all : (n : ℕ) → any (isNode n) (markedOf now t first ++ joinAll (levelsFrom (length t) (keepBy (map not first) (vertices now t)) (markedOf now t first)))
-      ≡ foundFrom now t (mostNodes - k) met level n
+  pub all : (n : ℕ) → any (isNode n) (markedOf now t first ++ joinAll (levelsAfter now t first)) ≡ foundFrom now t (mostNodes - k) met level n
+  pub count : length (levelsAfter now t first) ≡ k + length (levelsLeft now t (mostNodes - k) met level)
 
 module _ (now : ℕ) (t : List Entry) (s : length t ≤ mostNodes) (first : List Bool) where
   pub wave-start : Wide first → Waving now t first 0 first first
-  wave-start w = record { few = omega arith; wide = w; all = found-start now t s first }
+  wave-start w = record { few = omega arith; wide = w; all = found-start now t s first; count = ap length (all-left now t s first) ∙ omega arith }
 
   module _ (k : ℕ) (w : Wave) (next : List Bool) (g : Waving now t first k (w .met) (w .level)) (e : NextLevel now t (w .level) (w .met) next) where
-    pub wave-on : (v : Wave) → k < mostNodes → Onward w next v → Waving now t first (k + 1) (v .met) (v .level)
-    wave-on v p o =
+    pub wave-on : {r : Bool} → r ≡ not (any (λ b. b) next) → r ≡ false → (v : Wave) → k < mostNodes → Onward w next v → Waving now t first (k + 1) (v .met) (v .level)
+    wave-on n z v p o =
+        let h : any (λ b. b) next ≡ true = one-set (any (λ b. b) next) n z in
         let q : mostNodes - k ≡ suc (mostNodes - (k + 1)) = omega arith in
+        let c : length (levelsLeft now t (mostNodes - k) (w .met) (w .level)) ≡ suc (length (levelsLeft now t (mostNodes - (k + 1)) (v .met) (v .level))) =
+        rw (q, o .level) (left-on now t s (w .level) (w .met) next (g .wide) e (v .met) (o .wide) (o .met) h (mostNodes - (k + 1))) in
         record {
           few = omega arith;
           wide = o .wide;
@@ -137,19 +179,24 @@ module _ (now : ℕ) (t : List Entry) (s : length t ≤ mostNodes) (first : List
               g .all n ∙ ap (λ (f : ℕ). foundFrom now t f (w .met) (w .level) n) q
               ∙ found-on now t s (w .level) (w .met) next (g .wide) e (v .met) (o .wide) (o .met) (mostNodes - (k + 1)) n
               ∙ ap (λ (l : List Bool). foundFrom now t (mostNodes - (k + 1)) (v .met) l n) (sym (o .level));
+          count = omega (arith, c, g .count);
         }
 
-    pub wave-stop : ((i : ℕ) → i < mostNodes → getD next i false ≡ false) → Spread now t first (w .met)
-    wave-stop h =
+    pub wave-stop : {r : Bool} → r ≡ not (any (λ b. b) next) → r ≡ true → Spread now t first (record { marks = w .met; levels = k })
+    wave-stop n z =
+        let h : any (λ b. b) next ≡ false = none-set (any (λ b. b) next) n z in
         record {
           wide = g .wide;
           each = λ n. sym (g .all n ∙ found-stop now t s (w .level) (w .met) next (g .wide) e h (mostNodes - k) n);
+          count = omega (arith, ap length (left-stop now t s (w .level) (w .met) next (g .wide) e h (mostNodes - k)), g .count);
         }
 
-  pub wave-end : (k : ℕ) (w : Wave) → Waving now t first k (w .met) (w .level) → mostNodes ≤ k → Spread now t first (w .met)
+  pub wave-end : (k : ℕ) (w : Wave) → Waving now t first k (w .met) (w .level) → mostNodes ≤ k → Spread now t first (record { marks = w .met; levels = k })
   wave-end k w g p =
       let q : mostNodes - k ≡ 0 = omega arith in
+      let c : length (levelsLeft now t (mostNodes - k) (w .met) (w .level)) ≡ 0 = rw q (none-left now t s (w .met) (w .level)) in
       record {
         wide = g .wide;
         each = λ n. sym (g .all n ∙ ap (λ (f : ℕ). foundFrom now t f (w .met) (w .level) n) q ∙ found-end now t s (w .met) (w .level) n);
+        count = omega (arith, c, g .count);
       }

@@ -5,17 +5,19 @@ use mathlib.Core.List.{List, _++_, map}
 use Prim.Native.Nat.{ℕ, _-_, _≤_, _<_}
 use lib.ListN.{length, getD, take, drop}
 use Rattle.base.specs.Lists.{any, keepBy, joinAll, All}
-use Rattle.model.specs.Figures.{mostNodes, lastReading}
-use Rattle.model.specs.Table.{Entry, idOf}
-use Rattle.model.specs.Reach.{Link as ModelLink, Vertex, vertices, joined, touched, isNode, levelsFrom, inReach}
+use Rattle.model.specs.Figures.{mostNodes, tableBytes, lastReading}
+use Rattle.model.specs.Table.{Entry, idOf, underAge}
+use Rattle.model.specs.Reach.{Link as ModelLink, Vertex, vertices, joined, touched, isNode, levelsFrom, levels, inReach}
 use Rattle.model.specs.Digest.{networkDigest}
 use Rattle.model.specs.State.{noEntry}
 use Rattle.model.specs.Invariant.{EntryFits}
 use Rattle.wire.specs.declared.row.Header.{Header}
 use Rattle.table.specs.declared.Table.{Table}
-use Rattle.table.specs.View.{view, Kept}
+use Rattle.table.specs.declared.Entry.{Entry as Row}
+use Rattle.table.specs.View.{seen, view, FitRow, Kept}
 use Rattle.reach.specs.declared.link.Link.{Link}
 use Rattle.reach.specs.declared.mark.Wave.{Wave}
+use Rattle.reach.specs.declared.mark.Marked.{Marked}
 use Rattle.reach.specs.declared.Reached.{Reached}
 
 -- the bytes of the TLV that h tells of, at place `at` of s
@@ -46,15 +48,22 @@ markedOf now t marks = keepBy marks (vertices now t)
 abbrev pub noVertex : Vertex
 noVertex = record { says = noEntry .says; young = false }
 
--- the node at place r is young, and joined to the node at place v
-abbrev pub Leads : ℕ → List Entry → ℕ → ℕ → Bool
-Leads now t r v =
-    getD (vertices now t) r noVertex .young && joined (getD (vertices now t) r noVertex .says) (getD (vertices now t) v noVertex .says)
+-- node r is young, and joined to node v
+abbrev pub leads : ℕ → Entry → Entry → Bool
+leads now r v = underAge now r && joined (r .says) (v .says)
+
+-- what the marking asks of a row
+pub record Legible (now : ℕ) (m : List ℕ) (e : Row) : Type 0 where
+  pub fit : FitRow e
+  pub room : tableBytes ≤ length m
+  pub entry : EntryFits now (seen m e)
+  pub clock : now ≤ lastReading
 
 -- the next level: the places not yet met whose node is joined to a young node of the level
 pub record NextLevel (now : ℕ) (t : List Entry) (level met next : List Bool) : Type 0 where
   pub wide : Wide next
   pub each : (i : ℕ) → i < length t → getD next i false ≡ not (getD met i false) && touched (markedOf now t level) (getD (vertices now t) i noVertex)
+  pub beyond : (i : ℕ) → length t ≤ i → getD next i false ≡ false
 
 -- the next level joins those met, and is the last
 pub record Onward (w : Wave) (next : List Bool) (r : Wave) : Type 0 where
@@ -62,16 +71,25 @@ pub record Onward (w : Wave) (next : List Bool) (r : Wave) : Type 0 where
   pub met : (i : ℕ) → i < mostNodes → getD (r .met) i false ≡ getD (w .met) i false || getD next i false
   pub level : r .level ≡ next
 
--- all that the levels from `first` on reach, where `first` alone is met
-pub record Spread (now : ℕ) (t : List Entry) (first marks : List Bool) : Type 0 where
-  pub wide : Wide marks
-  pub each : (n : ℕ) → any (isNode n) (markedOf now t marks)
-      ≡ any (isNode n) (markedOf now t first ++ joinAll (levelsFrom (length t) (keepBy (map not first) (vertices now t)) (markedOf now t first)))
+-- the levels after `first`, where `first` alone is met
+abbrev pub levelsAfter : ℕ → List Entry → List Bool → List (List Vertex)
+levelsAfter now t first = levelsFrom (length t) (keepBy (map not first) (vertices now t)) (markedOf now t first)
+
+-- all that these levels reach, and how many there are
+pub record Spread (now : ℕ) (t : List Entry) (first : List Bool) (r : Marked) : Type 0 where
+  pub wide : Wide (r .marks)
+  pub each : (n : ℕ) → any (isNode n) (markedOf now t (r .marks)) ≡ any (isNode n) (markedOf now t first ++ joinAll (levelsAfter now t first))
+  pub count : r .levels ≡ length (levelsAfter now t first)
 
 -- the marks of the table's places are those of the definition
 pub record Marking (own now : ℕ) (t : List Entry) (marks : List Bool) : Type 0 where
   pub wide : Wide marks
   pub each : (i : ℕ) → i < length t → getD marks i false ≡ inReach own now t (idOf (getD t i noEntry))
+
+-- the marks, and the number of the last ring
+pub record Levelled (own now : ℕ) (t : List Entry) (r : Marked) : Type 0 where
+  pub marks : Marking own now t (r .marks)
+  pub count : r .levels ≡ length (levels own (vertices now t))
 
 -- marks and network digest
 pub record Reaching (own now : ℕ) (t : List Entry) (r : Reached) : Type 0 where

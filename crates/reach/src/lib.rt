@@ -24,7 +24,8 @@ pub fn reach(t: Table, mem: &[u8], own: u32, clock: u64) -> Reached
     requires { ⌜ Readable clock t (now mem) × (isSome (look own (view t (now mem))) ≡ true) ⌝ }
     ensures { λ r. ⌜ Reaching own clock (view t (now (mem .entry))) r ⌝ }
 {
-    let marks = mark::mark(t, mem, own, clock);
+    let m = mark::mark(t, mem, own, clock);
+    let marks = m.marks;
     Reached {
         marks,
         digest: digest::network_digest(t, marks),

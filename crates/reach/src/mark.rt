@@ -6,46 +6,24 @@ use table::Found;
 use table::Table;
 use table::age_at;
 use table::find;
-use table::row_at;
 ghost use mathlib.Core.Path.{_≡_};
-ghost use mathlib.Core.Bool.{true, false, _||_};
+ghost use mathlib.Core.Bool.{true, false, not, _||_};
 ghost use Prim.Native.Nat.{ℕ, _<_};
 ghost use lib.ListN.{getD};
-ghost use Rattle.base.specs.Lists.{isSome};
+ghost use Rattle.base.specs.Lists.{any, isSome};
 ghost use Rattle.model.specs.Table.{look};
-ghost use Rattle.model.specs.Reach.{vertices, touched};
-ghost use Rattle.table.specs.View.{view};
-ghost use Rattle.reach.specs.Marks.{Readable, Wide, markedOf, noVertex, NextLevel, Marking, Leads, Onward, Spread};
+ghost use Rattle.table.specs.View.{seen, view};
+ghost use Rattle.reach.specs.Marks.{Readable, Legible, Wide, leads, NextLevel, Levelled, Onward, Spread};
 
-// The node at place r is young, and joined to the node at place v.
-fn is_leading(t: Table, mem: &[u8], clock: u64, r: usize, v: usize) -> bool
-    requires { ⌜ Readable clock t (now mem) × ((r < t .count) × (v < t .count)) ⌝ }
-    ensures { λ b. ⌜ b ≡ Leads clock (view t (now (mem .entry))) r v ⌝ }
+// The node of row e is young, and joined to that of row f.
+fn is_leading(e: Entry, f: Entry, mem: &[u8], clock: u64) -> bool
+    requires { ⌜ Legible clock (now mem) e × Legible clock (now mem) f ⌝ }
+    ensures { λ b. ⌜ b ≡ leads clock (seen (now (mem .entry)) e) (seen (now (mem .entry)) f) ⌝ }
 {
-    let e = row_at(t, r);
     if 4294934528 <= age_at(e, clock) {
         return false;
     }
-    let f = row_at(t, v);
     is_joined(front_of(e, mem), e.id, front_of(f, mem), f.id)
-}
-
-// The node at place v is joined to a young node of the level.
-fn is_touched(t: Table, mem: &[u8], clock: u64, level: [bool; 32], v: usize) -> bool
-    requires { ⌜ Readable clock t (now mem) × (v < t .count) ⌝ }
-    ensures { λ b. ⌜ b ≡ touched (markedOf clock (view t (now (mem .entry))) level) (getD (vertices clock (view t (now (mem .entry)))) v noVertex) ⌝ }
-{
-    let count = t.count;
-    let mut r = 0;
-    while r < count {
-        if level[r] {
-            if is_leading(t, mem, clock, r, v) {
-                return true;
-            }
-        }
-        r += 1;
-    }
-    false
 }
 
 // The nodes not yet met that the level leads to.
@@ -55,19 +33,29 @@ fn next_level(t: Table, mem: &[u8], clock: u64, level: [bool; 32], met: [bool; 3
 {
     let count = t.count;
     let mut next = [false; 32];
-    let mut v = 0;
-    while v < count {
-        if !met[v] {
-            next[v] = is_touched(t, mem, clock, level, v);
+    let mut r = 0;
+    while r < count {
+        if level[r] {
+            let e = t.entries[r];
+            let mut v = 0;
+            while v < count {
+                if !met[v] {
+                    let f = t.entries[v];
+                    if is_leading(e, f, mem, clock) {
+                        next[v] = true;
+                    }
+                }
+                v += 1;
+            }
         }
-        v += 1;
+        r += 1;
     }
     next
 }
 
 // No mark is set.
 fn is_empty(marks: [bool; 32]) -> bool
-    ensures { λ r. ⌜ (r ≡ true → (i : ℕ) → i < 32 → getD marks i false ≡ false) ⌝ }
+    ensures { λ r. ⌜ r ≡ not (any (λ b. b) marks) ⌝ }
 {
     let mut i = 0;
     while i < 32 {
@@ -112,8 +100,14 @@ fn onward(w: Wave, next: [bool; 32]) -> Wave
     }
 }
 
+// The marks, and how many levels there are after the first.
+pub struct Marked {
+    pub marks: [bool; 32],
+    pub levels: usize,
+}
+
 // All that is reached from the first level, which alone is met: at most 32 levels, left at the first that adds nothing.
-fn spread(t: Table, mem: &[u8], clock: u64, first: [bool; 32]) -> [bool; 32]
+fn spread(t: Table, mem: &[u8], clock: u64, first: [bool; 32]) -> Marked
     requires { ⌜ Readable clock t (now mem) ⌝ }
     ensures { λ r. ⌜ Spread clock (view t (now (mem .entry))) first r ⌝ }
 {
@@ -127,23 +121,30 @@ fn spread(t: Table, mem: &[u8], clock: u64, first: [bool; 32]) -> [bool; 32]
         let level = w.level;
         let next = next_level(t, mem, clock, level, met);
         if is_empty(next) {
-            return met;
+            return Marked {
+                marks: met,
+                levels: k,
+            };
         }
         w = onward(w, next);
         k += 1;
     }
-    w.met
+    let marks = w.met;
+    Marked { marks, levels: k }
 }
 
-// The marks of the reachable nodes.
-pub fn mark(t: Table, mem: &[u8], own: u32, clock: u64) -> [bool; 32]
+// The marks of the reachable nodes, and how many levels they stand in.
+pub fn mark(t: Table, mem: &[u8], own: u32, clock: u64) -> Marked
     requires { ⌜ Readable clock t (now mem) × (isSome (look own (view t (now mem))) ≡ true) ⌝ }
-    ensures { λ r. ⌜ Marking own clock (view t (now (mem .entry))) r ⌝ }
+    ensures { λ r. ⌜ Levelled own clock (view t (now (mem .entry))) r ⌝ }
 {
     let mut first = [false; 32];
     let found = find(t, own);
     let Found::At(i) = found else {
-        return first;
+        return Marked {
+            marks: first,
+            levels: 0,
+        };
     };
     first[i] = true;
     spread(t, mem, clock, first)

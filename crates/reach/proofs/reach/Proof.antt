@@ -13,11 +13,11 @@ network-digest-requires c κs = search needs
 
 returns : tie.Need-returns
 returns c =
-    let a = c .before .before .before .args in
-    let k = c .before .mark in
+    let a = c .before .before .before .before .args in
+    let k = c .before .before .mark in
     record {
-      marks = k .ensures;
-      digest = c .network-digest .ensures (a .mem .now) (c .before .before .before .pre .0 .kept) ∙ digest-reached (a .own) (a .clock) (view (a .t) (a .mem .now)) (k .result) (k .ensures);
+      marks = k .ensures .marks;
+      digest = c .network-digest .ensures (a .mem .now) (c .before .before .before .before .pre .0 .kept) ∙ digest-reached (a .own) (a .clock) (view (a .t) (a .mem .now)) (k .result .marks) (k .ensures .marks);
     }
 
 pub reach-spec : {M : Type 1} → statement M
