@@ -9,7 +9,9 @@ use Rattle.base.specs.Memory.{written}
 use Rattle.base.proofs.Places.{all-at, getD-any}
 use Rattle.base.proofs.Written.{written-none, written-length, written-more, written-three}
 use Rattle.wire.specs.Groups.{groups}
-use Rattle.model.specs.Figures.{mostAge, snapshotBytes}
+use Rattle.wire.proofs.Good.{good-fits}
+use Rattle.wire.proofs.Varints.{groups-length}
+use Rattle.model.specs.Figures.{dataLimit, tableBytes, mostAge, snapshotBytes}
 use Rattle.model.specs.Sequence.{circle}
 use Rattle.model.specs.Table.{Entry}
 use Rattle.model.specs.State.{noEntry}
@@ -18,51 +20,61 @@ use Rattle.model.specs.Snapshot.{saveEntry, saved}
 use Rattle.model.proofs.Snapshots.{savedHead, savedEntries, entryBytes, headBytes, saved-is, entries-next, entry-put, entry-end, head-short, entry-short, save-short}
 use Rattle.table.specs.declared.Table.{Table}
 use Rattle.table.specs.declared.Entry.{Entry as Row}
-use Rattle.table.specs.View.{blank, rowAt, dataOf, seen, view, Kept, Read}
-use Rattle.table.proofs.Rows.{view-length, view-at, data-length}
-use Rattle.snapshot.specs.Answers.{SavedTo}
+use Rattle.table.specs.View.{blank, rowAt, dataOf, seen, view, FitRow, Kept, Read}
+use Rattle.table.proofs.Rows.{row-read, view-length, view-at, data-length}
+use Rattle.snapshot.specs.Answers.{saying, SavedTo}
 
--- the row r at place i of the table
-module _ (t : Table) (m : List ℕ) (i : ℕ) (r : Row) (k : Kept t m) (p : i < t .count) (o : Read t i r) where
-  entry-seen : getD (view t m) i noEntry ≡ seen m r
-  entry-seen = getD-any (view t m) i noEntry (seen m blank) (rw (view-length t (k .rows) m) p) ∙ view-at t (k .rows) m i p ∙ ap (seen m) (sym (o .same))
+-- a row that fits is short, and so is an age as it is saved
+pub record Short (r : Row) (bytes : List ℕ) : Type 0 where
+  pub id : length (groups (r .id)) ≤ 5
+  pub seq : length (groups (r .seq)) ≤ 5
+  pub size : length (groups (r .len)) ≤ 2
+  pub most : length bytes ≤ dataLimit
 
-  pub row-fits : (own clock : ℕ) → TableFits own clock (view t m) → EntryFits clock (seen m r)
-  row-fits own clock f = subst (EntryFits clock) entry-seen (all-at (EntryFits clock) noEntry (view t m) i (f .entries) (rw (view-length t (k .rows) m) p))
+pub short-row : (clock : ℕ) (r : Row) (bytes : List ℕ) → EntryFits clock (saying r bytes) → r .len ≡ length bytes → Short r bytes
+short-row clock r bytes f e =
+    let l : length bytes ≤ dataLimit = good-fits dataLimit bytes (f .fine) in
+    record {
+      id = groups-length 4 (r .id) (omega (arith, f .node));
+      seq = groups-length 4 (r .seq) (omega (arith, f .seq));
+      size = groups-length 1 (r .len) (omega arith);
+      most = l;
+    }
 
-  data-is : (d : List ℕ) → d ≡ dataOf m (rowAt t i) → d ≡ dataOf m r
-  data-is d e = e ∙ ap (dataOf m) (sym (o .same))
+pub short-age : (age cap : ℕ) → cap ≡ min age mostAge → length (groups cap) ≤ 5
+short-age age cap e = groups-length 4 cap (omega arith)
 
-  pub data-size : (d : List ℕ) → d ≡ dataOf m (rowAt t i) → length d ≡ r .len
-  data-size d e = ap length e ∙ data-length t m i k p .0 ∙ sym (o .long)
+-- what the code writes of the row r, whose data are the bytes, and where it ends
+module _ (r : Row) (bytes : List ℕ) (clock at : ℕ) (d d1 d2 d3 d4 d5 : List ℕ) (a1 a2 a3 a4 age cap : ℕ)
+    (e1 : d1 ≡ written d at (groups (r .id))) (q1 : a1 ≡ at + length (groups (r .id)))
+    (e2 : d2 ≡ written d1 a1 (groups (r .seq))) (q2 : a2 ≡ a1 + length (groups (r .seq)))
+    (old : age ≡ r .age + (clock - r .since)) (most : cap ≡ min age mostAge)
+    (e3 : d3 ≡ written d2 a2 (groups cap)) (q3 : a3 ≡ a2 + length (groups cap))
+    (e4 : d4 ≡ written d3 a3 (groups (r .len))) (q4 : a4 ≡ a3 + length (groups (r .len)))
+    (size : r .len ≡ length bytes) (e5 : d5 ≡ written d4 a4 bytes) (fits : a4 + length bytes ≤ length d) where
+  capped-age : cap ≡ min (r .age + (clock - r .since)) mostAge
+  capped-age = most ∙ ap (λ (n : ℕ). min n mostAge) old
 
-  -- what the code writes of it, and where it ends
-  module _ (clock at : ℕ) (d d1 d2 d3 d4 d5 bytes : List ℕ) (a1 a2 a3 a4 age cap : ℕ)
-      (e1 : d1 ≡ written d at (groups (r .id))) (q1 : a1 ≡ at + length (groups (r .id)))
-      (e2 : d2 ≡ written d1 a1 (groups (r .seq))) (q2 : a2 ≡ a1 + length (groups (r .seq)))
-      (old : age ≡ r .age + (clock - r .since)) (most : cap ≡ min age mostAge)
-      (e3 : d3 ≡ written d2 a2 (groups cap)) (q3 : a3 ≡ a2 + length (groups cap))
-      (e4 : d4 ≡ written d3 a3 (groups (r .len))) (q4 : a4 ≡ a3 + length (groups (r .len)))
-      (there : bytes ≡ dataOf m (rowAt t i)) (e5 : d5 ≡ written d4 a4 bytes) (fits : a4 + length bytes ≤ length d) where
-    capped-age : cap ≡ min (r .age + (clock - r .since)) mostAge
-    capped-age = most ∙ ap (λ (n : ℕ). min n mostAge) old
+  pub row-saved : (d5 ≡ written d at (saveEntry clock (saying r bytes))) × (a4 + length bytes ≡ at + length (saveEntry clock (saying r bytes)))
+  row-saved = (
+    entry-put d at clock (saying r bytes) d1 d2 d3 d4 d5 a1 a2 a3 a4 e1 q1 e2 q2 (rw capped-age at e3) (rw capped-age at q3) (rw size at e4) (rw size at q4) e5 fits,
+    entry-end d at clock (saying r bytes) d1 d2 d3 d4 d5 a1 a2 a3 a4 e1 q1 e2 q2 (rw capped-age at e3) (rw capped-age at q3) (rw size at e4) (rw size at q4) e5 fits,
+  )
 
-    size-is : r .len ≡ length (dataOf m r)
-    size-is = sym (data-size bytes there) ∙ ap length (data-is bytes there)
+-- the row at place i of the table
+module _ (t : Table) (m : List ℕ) (i : ℕ) (k : Kept t m) (p : i < t .count) where
+  pub row-fit : FitRow (rowAt t i) × (tableBytes ≤ length m)
+  row-fit = let f : Read t i (rowAt t i) = row-read t i (k .rows) p in ((f .low, f .short), k .room)
 
-    row-put : d5 ≡ written d at (saveEntry clock (seen m r))
-    row-put =
-        entry-put d at clock (seen m r) d1 d2 d3 d4 d5 a1 a2 a3 a4 e1 q1 e2 q2 (rw capped-age at e3) (rw capped-age at q3) (rw size-is at e4) (rw size-is at q4)
-        (rw (data-is bytes there) at e5) (rw (data-is bytes there) at fits)
+  module _ (bytes : List ℕ) (e : bytes ≡ dataOf m (rowAt t i)) where
+    pub entry-seen : getD (view t m) i noEntry ≡ saying (rowAt t i) bytes
+    entry-seen = getD-any (view t m) i noEntry (seen m blank) (rw (view-length t (k .rows) m) p) ∙ view-at t (k .rows) m i p ∙ ap (saying (rowAt t i)) (sym e)
 
-    row-end : a4 + length bytes ≡ at + length (saveEntry clock (seen m r))
-    row-end =
-        rw (data-is bytes there)
-        (entry-end d at clock (seen m r) d1 d2 d3 d4 d5 a1 a2 a3 a4 e1 q1 e2 q2 (rw capped-age at e3) (rw capped-age at q3) (rw size-is at e4) (rw size-is at q4)
-        (rw (data-is bytes there) at e5) (rw (data-is bytes there) at fits))
+    pub row-fits : (own clock : ℕ) → TableFits own clock (view t m) → EntryFits clock (saying (rowAt t i) bytes)
+    row-fits own clock f = subst (EntryFits clock) entry-seen (all-at (EntryFits clock) noEntry (view t m) i (f .entries) (rw (view-length t (k .rows) m) p))
 
-    pub row-saved : (d5 ≡ written d at (saveEntry clock (getD (view t m) i noEntry))) × (a4 + length bytes ≡ at + length (saveEntry clock (getD (view t m) i noEntry)))
-    row-saved = rw entry-seen (row-put, row-end)
+    pub row-size : rowAt t i .len ≡ length bytes
+    row-size = sym (ap length e ∙ data-length t m i k p .0)
 
 -- ---- the snapshot, entry by entry
 

@@ -9,14 +9,19 @@ use Rattle.base.specs.Lists.{orElse, isSome}
 use Rattle.base.specs.Memory.{written}
 use Rattle.wire.specs.Order.{good}
 use Rattle.model.specs.Figures.{mostNodes, dataLimit, tableBytes, mostAge, wide}
-use Rattle.model.specs.Table.{entryOf}
+use Rattle.model.specs.Table.{Entry, entryOf}
 use Rattle.model.specs.Snapshot.{consTo, loadEntries, holdsOwn, load}
+use Rattle.table.specs.declared.Entry.{Entry as Row}
 use Rattle.table.specs.View.{view, Kept}
 use Rattle.snapshot.specs.declared.read.EntryRead.{EntryRead}
 use Rattle.snapshot.specs.declared.read.EntryRead.the-variants.{Whole, NoEntry}
 use Rattle.snapshot.specs.declared.read.HeadRead.{HeadRead}
 use Rattle.snapshot.specs.declared.read.HeadRead.the-variants.{Head, NoHead}
 use Rattle.snapshot.specs.declared.load.Loaded.{Loaded}
+
+-- the row e, where its data are the bytes d
+abbrev pub saying : Row → List ℕ → Entry
+saying e d = entryOf (e .id) (e .seq) d (e .age) (e .since)
 
 -- the bytes are written to the front of the room, and r is how many; every other byte stays
 pub record SavedTo (bytes room : List ℕ) (room′ : List ℕ) (r : ℕ) : Type 0 where

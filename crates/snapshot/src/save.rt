@@ -1,20 +1,19 @@
 // Saving: edition, own identifier, count, then each node ascending.
 use base::memory::store;
+use table::Entry;
+use table::SLOT;
 use table::Table;
 use table::age_at;
-use table::data_of;
-use table::row_at;
 use wire::groups::put_groups;
 ghost use mathlib.Core.Path.{_≡_};
-ghost use Prim.Native.Nat.{_+_, _≤_, _<_, min};
-ghost use lib.ListN.{length, getD};
+ghost use Prim.Native.Nat.{_+_, _≤_, min};
+ghost use lib.ListN.{length};
 ghost use Rattle.base.specs.Memory.{written};
-ghost use Rattle.model.specs.Figures.{snapshotBytes, lastReading, mostAge};
-ghost use Rattle.model.specs.State.{noEntry};
+ghost use Rattle.model.specs.Figures.{tableBytes, snapshotBytes, lastReading, mostAge};
 ghost use Rattle.model.specs.Snapshot.{saveEntry, saved};
-ghost use Rattle.model.specs.Invariant.{TableFits};
-ghost use Rattle.table.specs.View.{view, Kept};
-ghost use Rattle.snapshot.specs.Answers.{SavedTo};
+ghost use Rattle.model.specs.Invariant.{EntryFits, TableFits};
+ghost use Rattle.table.specs.View.{dataOf, view, FitRow, Kept};
+ghost use Rattle.snapshot.specs.Answers.{saying, SavedTo};
 
 // An age as it is saved: at most 2^32 - 1.
 fn capped(age: u64) -> u64
@@ -26,25 +25,25 @@ fn capped(age: u64) -> u64
     age
 }
 
-// The node at place i to place `at` of the room; the place after it.
-fn save_entry(
-    t: Table,
-    mem: &[u8],
-    own: u32,
-    i: usize,
-    clock: u64,
-    room: &mut [u8],
-    at: usize,
-) -> usize
-    requires { ⌜ Kept t (now mem) × (TableFits own clock (view t (now mem)) × ((clock ≤ lastReading) × ((i < t .count) × (at + 1041 ≤ length (now room))))) ⌝ }
-    ensures { λ r. ⌜ (now (room .exit) ≡ written (now (room .entry)) at (saveEntry clock (getD (view t (now (mem .entry))) i noEntry))) × (r ≡ at + length (saveEntry clock (getD (view t (now (mem .entry))) i noEntry))) ⌝ }
+// The data of the row e, as a part of the memory.
+fn bytes_of<'a>(e: Entry, mem: &'a [u8]) -> &'a [u8]
+    requires { ⌜ FitRow e × (tableBytes ≤ length (now mem)) ⌝ }
+    ensures { λ r. ⌜ now r ≡ dataOf (now (mem .entry)) e ⌝ }
 {
-    let e = row_at(t, i);
+    let a = e.slot * SLOT;
+    let b = a + e.len;
+    &mem[a..b]
+}
+
+// The node of row e, whose data are the bytes, to place `at` of the room; the place after it.
+fn save_entry(e: Entry, bytes: &[u8], clock: u64, room: &mut [u8], at: usize) -> usize
+    requires { ⌜ EntryFits clock (saying e (now bytes)) × ((e .len ≡ length (now bytes)) × ((clock ≤ lastReading) × (at + 1041 ≤ length (now room)))) ⌝ }
+    ensures { λ r. ⌜ (now (room .exit) ≡ written (now (room .entry)) at (saveEntry clock (saying e (now (bytes .entry))))) × (r ≡ at + length (saveEntry clock (saying e (now (bytes .entry))))) ⌝ }
+{
     let a = put_groups(room, at, e.id as u64);
     let b = put_groups(room, a, e.seq as u64);
     let c = put_groups(room, b, capped(age_at(e, clock)));
     let d = put_groups(room, c, e.len as u64);
-    let bytes = data_of(t, mem, i);
     store(room, d, bytes);
     d + bytes.len()
 }
@@ -60,7 +59,8 @@ pub fn save(t: Table, mem: &[u8], own: u32, clock: u64, room: &mut [u8]) -> usiz
     let mut at = put_groups(room, b, count as u64);
     let mut i = 0;
     while i < count {
-        at = save_entry(t, mem, own, i, clock, room, at);
+        let e = t.entries[i];
+        at = save_entry(e, bytes_of(e, mem), clock, room, at);
         i += 1;
     }
     at
