@@ -25,7 +25,7 @@ use Rattle.table.proofs.Rows.{look-stands, look-gap, view-length, row-hashed}
 use Rattle.decide.specs.Decided.{decisionOf, Acts, Fine, Taken, Fields, Decides}
 use Rattle.decide.specs.declared.Decision.{Decision as Answer}
 use Rattle.base.proofs.Lists.{rest-is}
-use Rattle.decide.specs.declared.Decision.the-variants.{Ignored, Ask, TakeNumber, Replace, Insert, Dropped}
+use Rattle.decide.specs.declared.Decision.the-variants.{Ignored, Ask, TakeNumber, TakeAll, Dropped}
 
 -- ---- the data carried
 
@@ -158,9 +158,9 @@ module _ (t : Table) (i node seq age : ℕ) (h d v : List ℕ) (k : Rows t) (x :
       -- b tells whether data are carried
       module _ (p : not w ≡ false) (b : Bool) (e : b ≡ isSome (carriedIn h d)) where
         module _ (q : b ≡ true) (y : Bool) (z : y ≡ fine h d) where
-          pub replaces : y ≡ true → Decides t v (Replace i node seq age)
+          pub replaces : y ≡ true → Decides t v (TakeAll i true node seq age)
           replaces c =
-              decides (Replace i node seq age) s (fine-taken (sym z ∙ c))
+              decides (TakeAll i true node seq age) s (tt, fine-taken (sym z ∙ c))
               (λ now m g. rw (← x .bytes-are)
               (held-all now (view t m) (heard node seq age h d) (seen m row) (held m) (differ m g ∙ not-false w p) d (carried-some h d (sym e ∙ q)) (sym z ∙ c)))
 
@@ -196,9 +196,9 @@ module _ (t : Table) (i node seq age : ℕ) (h d v : List ℕ) (k : Rows t) (x :
           (λ now m g. new-ask now (view t m) (heard node seq age h d) (look-gap t k node i m s) (rw (view-length t k m) p) (carried-none h d (sym e ∙ not-true b q)))
 
       module _ (q : not b ≡ false) (y : Bool) (z : y ≡ fine h d) where
-        pub inserts : y ≡ true → Decides t v (Insert i node seq age)
+        pub inserts : y ≡ true → Decides t v (TakeAll i false node seq age)
         inserts c =
-            decides (Insert i node seq age) s (p, fine-taken (sym z ∙ c))
+            decides (TakeAll i false node seq age) s (p, fine-taken (sym z ∙ c))
             (λ now m g. rw (← x .bytes-are)
             (new-all now (view t m) (heard node seq age h d) (look-gap t k node i m s) (rw (view-length t k m) p) d
             (carried-some h d (sym e ∙ not-false b q)) (sym z ∙ c)))

@@ -23,7 +23,7 @@ ghost use Rattle.model.specs.Decide.{carriedIn, receivedOf, differs, decide};
 ghost use Rattle.table.specs.View.{view, seen, Rows, Kept, Stands, Gap};
 ghost use Rattle.decide.specs.Decided.{decisionOf, Acts, Taken, Fields, Decides};
 
-// Each case with the numbers it needs; where all is taken, a node held is replaced and a new one inserted.
+// Each case with the numbers it needs; where all is taken, `held` tells a node that stands at the place from a new one that would stand there.
 pub enum Decision {
     Ignored,
     Ask {
@@ -35,14 +35,9 @@ pub enum Decision {
         seq: u32,
         age: u32,
     },
-    Replace {
+    TakeAll {
         place: usize,
-        node: u32,
-        seq: u32,
-        age: u32,
-    },
-    Insert {
-        place: usize,
+        held: bool,
         node: u32,
         seq: u32,
         age: u32,
@@ -105,8 +100,9 @@ fn decide_held(
     }
     if is_carrying(hash, bytes) {
         if is_fine(hash, bytes) {
-            return Decision::Replace {
+            return Decision::TakeAll {
                 place,
+                held: true,
                 node,
                 seq,
                 age,
@@ -146,8 +142,9 @@ fn decide_new(
         return Decision::Ask { node };
     }
     if is_fine(hash, bytes) {
-        return Decision::Insert {
+        return Decision::TakeAll {
             place,
+            held: false,
             node,
             seq,
             age,

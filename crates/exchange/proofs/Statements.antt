@@ -10,7 +10,7 @@ use borrow.Author.Tests.{not-true, not-false}
 use Rattle.base.specs.Bytes.{u32At}
 use Rattle.base.proofs.Lists.{rest-is, part-is}
 use Rattle.sha256.specs.Sha256.{hash16}
-use Rattle.model.specs.Figures.{dataLimit, reclaimStep}
+use Rattle.model.specs.Figures.{mostNodes, dataLimit, reclaimStep}
 use Rattle.model.specs.Sequence.{advance}
 use Rattle.model.specs.Table.{Entry, entryOf, put}
 use Rattle.model.specs.State.{State as ModelState, withTable, ownEntry, ownData, publishAs}
@@ -20,7 +20,7 @@ use Rattle.model.specs.Handle.{Work as ModelWork, withState, reply, onOwnState,
 use Rattle.model.proofs.Cases.{received-node, received-seq, received-hash, own-reclaimed, own-agrees, state-own, state-other, carry-ignored, carry-ask, carry-number, carry-all, carry-dropped}
 use Rattle.table.specs.declared.Table.{Table}
 use Rattle.table.specs.declared.Entry.{Entry as Row}
-use Rattle.table.specs.View.{view, seen, dataOf, rowAt, Read, Stands, Stored, Renumbered}
+use Rattle.table.specs.View.{view, seen, dataOf, rowAt, Read, Stands, Gap, Stored, Renumbered}
 use Rattle.table.proofs.Rows.{row-hashed}
 use Rattle.node.specs.declared.State.{State}
 use Rattle.node.specs.View.{stateOf, Held, Moved}
@@ -29,7 +29,7 @@ use Rattle.node.proofs.Own.{own-entry}
 use Rattle.node.proofs.Moves.{stored-moved, renumbered-moved}
 use Rattle.decide.specs.declared.Decision.{Decision as Answer}
 use Rattle.decide.specs.declared.Decision.the-variants.{Ignored, Ask, Dropped}
-use Rattle.decide.specs.Decided.{decisionOf, Acts, Fine, Taken}
+use Rattle.decide.specs.Decided.{decisionOf, Acts, Fine, Taken, Placed, HasRoom}
 use Rattle.reply.specs.declared.Context.{Context}
 use Rattle.reply.specs.declared.Work.{Work}
 use Rattle.reply.specs.View.{contextOf, workOf, putTable, Sound, Ready, Stepped}
@@ -166,6 +166,14 @@ module _ (t : Table) {d x : Answer} (e : d ≡ x) where
 
   pub taken-as : (v : List ℕ) → Taken t v d → Taken t v x
   taken-as v k = subst (Taken t v) e k
+
+-- where all is taken: a node held, or a new one
+module _ (t : Table) (node place : ℕ) {held : Bool} (p : Placed t node place held) (q : HasRoom t held) where
+  pub placed-held : held ≡ true → Stands t node place
+  placed-held e = rw e at p
+
+  pub placed-new : held ≡ false → Gap t node place × (t .count < mostNodes)
+  placed-new e = (rw e at p, rw e at q)
 
 -- ---- a Node State, about our own node or another
 

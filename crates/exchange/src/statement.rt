@@ -23,7 +23,7 @@ ghost use Rattle.model.specs.Table.{entryOf};
 ghost use Rattle.table.specs.View.{dataOf, rowAt, Stands, Gap};
 ghost use Rattle.model.specs.Handle.{onOwnState, carryOut, onState};
 ghost use Rattle.reply.specs.View.{contextOf, putTable, Ready, Stepped};
-ghost use Rattle.decide.specs.Decided.{decisionOf, Acts, Fine, Taken};
+ghost use Rattle.decide.specs.Decided.{decisionOf, Acts, Fine, Taken, Placed, HasRoom};
 
 // The 16 bytes of the digest in a Node State's value.
 fn hash_in(value: &[u8]) -> [u8; 16]
@@ -158,6 +158,28 @@ fn take_in(
     with_table(w, t)
 }
 
+// Number, age and data are taken for the node that stands at the place, or for a new one that would.
+fn take_all(
+    w: Work,
+    mem: &mut [u8],
+    room: &[u8],
+    c: Context,
+    value: &[u8],
+    place: usize,
+    held: bool,
+    node: u32,
+    seq: u32,
+    age: u32,
+) -> Work
+    requires { ⌜ Ready c w (now mem) (now room) × ((28 ≤ length (now value)) × (Placed (w .state .table) node place held × (HasRoom (w .state .table) held × Fine (now value)))) ⌝ }
+    ensures { λ v. ⌜ Stepped c 0 (carryOut (contextOf c) (ModelDecision.takeAll (entryOf node seq (drop 28 (now (value .entry))) age (c .clock)))) w (now (mem .entry)) (now (room .entry)) v (now (mem .exit)) (now (room .entry)) ⌝ }
+{
+    if held {
+        return take_over(w, mem, room, c, value, place, node, seq, age);
+    }
+    take_in(w, mem, room, c, value, place, node, seq, age)
+}
+
 // What is decided, carried out.
 fn carry_out(
     w: Work,
@@ -179,18 +201,13 @@ fn carry_out(
             seq,
             age,
         } => take_number(w, mem, room, c, place, node, seq, age),
-        Decision::Replace {
+        Decision::TakeAll {
             place,
+            held,
             node,
             seq,
             age,
-        } => take_over(w, mem, room, c, value, place, node, seq, age),
-        Decision::Insert {
-            place,
-            node,
-            seq,
-            age,
-        } => take_in(w, mem, room, c, value, place, node, seq, age),
+        } => take_all(w, mem, room, c, value, place, held, node, seq, age),
         Decision::Dropped => {
             let mut next = w;
             next.dropped = w.dropped + 1;

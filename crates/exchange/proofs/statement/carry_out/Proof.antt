@@ -25,21 +25,11 @@ take-number-requires c κs =
 enum-known-d-3 : tie.Need-enum-known-d-3
 enum-known-d-3 c = search needs
 
-take-over-requires : tie.Need-take-over-requires
-take-over-requires c κs =
+take-all-requires : tie.Need-take-all-requires
+take-all-requires c κs =
     let a = c .before .before .before .before .before .before .before .before .args in
     let p = c .before .before .before .before .before .before .before .before .pre in
     let q = c .before .before .before .d3 .given in
-    (p .0, (p .1 .0, (acts-as (a .w .state .table) (q .1) (p .1 .1 .0), taken-as (a .w .state .table) (q .1) (a .value .now) (p .1 .1 .1))))
-
-enum-known-d-4 : tie.Need-enum-known-d-4
-enum-known-d-4 c = search needs
-
-take-in-requires : tie.Need-take-in-requires
-take-in-requires c κs =
-    let a = c .before .before .before .before .before .before .before .before .args in
-    let p = c .before .before .before .before .before .before .before .before .pre in
-    let q = c .before .before .before .d4 .given in
     (p .0, (p .1 .0, (acts-as (a .w .state .table) (q .1) (p .1 .1 .0), taken-as (a .w .state .table) (q .1) (a .value .now) (p .1 .1 .1))))
 
 enum-told-2 : tie.Need-enum-told-2
@@ -85,21 +75,10 @@ same-length-6 c = search needs
 returns-4 : tie.Need-returns-4
 returns-4 c =
     let a = c .before .before .before .before .before .before .before .before .before .before .before .args in
-    taken-carried (a .c) (a .w) (a .mem .now) (a .room .now) (a .value .now) (a .d) _ (c .before .before .before .before .before .before .d3 .given .1) (c .before .before .take-over .result) _ (c .before .before .take-over .ensures)
-
-same-length-7 : tie.Need-same-length-7
-same-length-7 c = search needs
-
-same-length-8 : tie.Need-same-length-8
-same-length-8 c = search needs
+    taken-carried (a .c) (a .w) (a .mem .now) (a .room .now) (a .value .now) (a .d) _ (c .before .before .before .before .before .before .d3 .given .1) (c .before .before .take-all .result) _ (c .before .before .take-all .ensures)
 
 returns-5 : tie.Need-returns-5
 returns-5 c =
-    let a = c .before .before .before .before .before .before .before .before .before .before .before .args in
-    taken-carried (a .c) (a .w) (a .mem .now) (a .room .now) (a .value .now) (a .d) _ (c .before .before .before .before .before .before .d4 .given .1) (c .before .before .take-in .result) _ (c .before .before .take-in .ensures)
-
-returns-6 : tie.Need-returns-6
-returns-6 c =
     let a = c .before .before .before .before .before .before .args in
     drop-carried (a .c) (a .w) (a .mem .now) (a .room .now) (a .value .now) (a .d) (c .before .enum-told2 .given .1) (c .before .before .before .before .before .before .pre .0 .sound)
 
@@ -113,9 +92,7 @@ carry-out-spec =
     enum-known-d-2
     take-number-requires
     enum-known-d-3
-    take-over-requires
-    enum-known-d-4
-    take-in-requires
+    take-all-requires
     enum-told-2
     add-next
     returns
@@ -128,7 +105,4 @@ carry-out-spec =
     same-length-5
     same-length-6
     returns-4
-    same-length-7
-    same-length-8
-    returns-5
-    returns-6)
+    returns-5)
