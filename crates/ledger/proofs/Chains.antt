@@ -1,22 +1,31 @@
 -- Demand 2 over the calls' promises: only nodes to which a chain leads are marked, summed or sent. Assumes nothing.
 use mathlib.Core.Path.{_≡_, refl, sym, ap, subst, _∙_}
-use mathlib.Core.Bool.{Bool, true, false}
+use mathlib.Core.Bool.{Bool, true, false, cond}
 use mathlib.Core.List.{List, [], _∷_, _++_, map, append-nil, append-assoc}
 use mathlib.Core.Option.{Option, some}
-use mathlib.Core.Logic.{_⊎_, ⊎-elim}
-use Prim.Native.Nat.{ℕ}
-use lib.ListN.{length, take, replicate}
+use mathlib.Core.Logic.{_⊎_, inl, inr, ⊎-elim}
+use Prim.Native.Nat.{ℕ, pred, _≤_}
+use native.Mathlib.Omega.{arith}
+use lib.ListN.{length, getD, take, replicate}
 use Rattle.base.specs.Lists.{In, orElse, joinAll}
+use Rattle.base.specs.Bytes.{big32}
+use Rattle.base.specs.Sorted.{Ascending}
 use Rattle.base.proofs.Lists.{in-append, join-append}
 use Rattle.wire.specs.Row.{typeOf, row, isRow, tlvs}
+use Rattle.wire.proofs.Encoded.{encode-type, encode-whole}
 use Rattle.wire.proofs.Good.{Wholes, tlvs-whole, wholes-append, tlvs-row}
 use Rattle.model.specs.Table.{Entry, idOf, statements}
 use Rattle.model.specs.Reach.{inReach, reached}
-use Rattle.model.specs.Messages.{shortState, wholeState}
+use Rattle.model.specs.Messages.{endpointTlv, networkTlv, shortState, wholeState}
 use Rattle.model.specs.Digest.{networkDigest}
 use Rattle.model.specs.Show.{Marks as ModelMarks, refusalMarks, marks}
 use Rattle.model.specs.Totals.{Summed as ModelSummed, totalOf, sumOf, unreadable, paymentsIn}
-use Rattle.model.specs.State.{State as ModelState}
+use Rattle.model.specs.Figures.{tableBytes}
+use Rattle.model.specs.Trickle.{event}
+use Rattle.model.specs.State.{State as ModelState, endpointAt, settle}
+use Rattle.model.specs.Begin.{Done as ModelDone}
+use Rattle.model.specs.Tick.{Sent as ModelSent, dropSilent, announcement, ticked, refusalTick, tick}
+use Rattle.model.specs.Pay.{purged, refusalPurge, purge}
 use Rattle.model.specs.Handle.{Context, Work, oneTlv, allTlvs}
 use Rattle.model.specs.Receive.{Call, Answer as ModelAnswer, contextOf, startOf, receive}
 use Rattle.model.specs.Theorems.{Chained}
@@ -27,15 +36,19 @@ use Rattle.model.proofs.ReadBack.{states-read-back}
 use Rattle.model.proofs.Totals.{totals-add-up}
 use Rattle.model.proofs.Refusals.{refusals-exact}
 use Rattle.model.proofs.Turns.{each-at-its-turn}
+use Rattle.model.proofs.Traffic.{all-sorted}
 use Rattle.table.specs.View.{view}
+use Rattle.table.proofs.Rows.{view-ascending}
 use Rattle.node.specs.View.{stateOf}
 use Rattle.node.specs.declared.State.{State}
 use Rattle.exchange.specs.Received.{callOf}
+use Rattle.ledger.specs.declared.answers.Done.{Done}
+use Rattle.ledger.specs.declared.answers.Sent.{Sent}
 use Rattle.ledger.specs.declared.answers.Answer.{Answer}
 use Rattle.ledger.specs.declared.answers.Summed.{Summed}
 use Rattle.ledger.specs.declared.answers.Marked.{Marked}
-use Rattle.ledger.specs.Promises.{summedOf, marksOf, Receives, Totals, SumsUp, Marks}
-use Rattle.ledger.specs.Demands.{Reachable, SentOf, OnlyReachable}
+use Rattle.ledger.specs.Promises.{AsLeft, summedOf, marksOf, Receives, Ticks, Purges, Totals, SumsUp, Marks}
+use Rattle.ledger.specs.Demands.{Reachable, digestOver, SentOf, ToldOf, OnlyReachable}
 use Rattle.ledger.proofs.Answering.{as-accepted}
 
 -- ---- the entries that count
@@ -48,9 +61,10 @@ led own clock t e i =
     let r : In e t × (inReach own clock t (idOf e) ≡ true) = levels-are-chains .entries own clock t e .0 i in
     (r .0, levels-are-chains .same own clock t (idOf e) .0 (r .1))
 
-reachable : (own clock : ℕ) (t : List Entry) → Reachable own clock t (reached own clock t)
-reachable own clock t =
+reachable : (own clock : ℕ) (t : List Entry) → Ascending idOf t → Reachable own clock t (reached own clock t)
+reachable own clock t a =
     record {
+      ascending = levels-are-chains .sorted own clock t a;
       exactly = λ e. (led own clock t e, λ l. levels-are-chains .entries own clock t e .1 (l .0, levels-are-chains .same own clock t (idOf e) .1 (l .1)));
     }
 
@@ -62,11 +76,18 @@ From c ts w u =
     (before : List (List ℕ)) × (t : List ℕ) × (later : List (List ℕ)) × (ts ≡ before ++ (t ∷ later)) × (e : Entry) ×
     Led (allTlvs c before w .state .own) (c .now) (allTlvs c before w .state .table) e × ((u ≡ shortState (c .now) e) ⊎ (u ≡ wholeState (c .now) e))
 
+-- u has the digest at such a moment
+abbrev Telling : Context → List (List ℕ) → Work → List ℕ → Type 0
+Telling c ts w u =
+    (before : List (List ℕ)) × (t : List ℕ) × (later : List (List ℕ)) × (ts ≡ before ++ (t ∷ later))
+    × (u ≡ networkTlv (networkDigest (allTlvs c before w .state .own) (c .now) (allTlvs c before w .state .table)))
+
 record Written (c : Context) (ts : List (List ℕ)) (w v : Work) : Type 0 where
   us : List (List ℕ)
   out : v .out ≡ w .out ++ joinAll us
   whole : Wholes us
   fair : (u : List ℕ) → In u us → typeOf u ≡ 5 → From c ts w u
+  told : (u : List ℕ) → In u us → typeOf u ≡ 4 → Telling c ts w u
 
 row-wholes : (us : List (List ℕ)) → row (joinAll us) ≡ some us → Wholes us
 unfolding tlvs isRow
@@ -85,6 +106,13 @@ from-here : (c : Context) (t : List ℕ) (ts : List (List ℕ)) (w : Work) (u : 
 from-here c t ts w u e i s =
     ([], t, ts, refl, e, rw (all-tlvs-none c w) (led (w .state .own) (c .now) (w .state .table) e i), s)
 
+tells-next : (c : Context) (t : List ℕ) (ts : List (List ℕ)) (w : Work) (u : List ℕ) → Telling c ts (oneTlv c t w) u → Telling c (t ∷ ts) w u
+tells-next c t ts w u f =
+    (t ∷ f .0, f .1, f .2, ap (λ (l : List (List ℕ)). t ∷ l) (f .3), rw (all-tlvs-next c w t (f .0)) (f .4))
+
+tells-here : (c : Context) (t : List ℕ) (ts : List (List ℕ)) (w : Work) (u : List ℕ) → u ≡ networkTlv (networkDigest (w .state .own) (c .now) (w .state .table)) → Telling c (t ∷ ts) w u
+tells-here c t ts w u e = ([], t, ts, refl, rw (all-tlvs-none c w) e)
+
 all-written : (c : Context) (ts : List (List ℕ)) (w : Work) → Written c ts w (allTlvs c ts w)
 all-written c [] w =
     record {
@@ -92,6 +120,7 @@ all-written c [] w =
       out = ap (λ (v : Work). v .out) (all-tlvs-none c w) ∙ sym (append-nil (w .out));
       whole = tt;
       fair = λ u i. absurd i;
+      told = λ u i. absurd i;
     }
 all-written c (t ∷ ts) w =
     let o = served .only c t w in
@@ -104,59 +133,166 @@ all-written c (t ∷ ts) w =
       whole = wholes-append (o .0) (x .us) (row-wholes (o .0) (o .2)) (x .whole);
       fair = λ u i five.
           ⊎-elim (λ k. let f = o .3 u k five in from-here c t ts w u (f .0) (f .1) (f .2)) (λ k. from-next c t ts w u (x .fair u k five)) (in-append u (o .0) (x .us) i);
+      told = λ u i four.
+          ⊎-elim (λ k. tells-here c t ts w u (o .4 u k four)) (λ k. tells-next c t ts w u (x .told u k four)) (in-append u (o .0) (x .us) i);
     }
 
 -- ---- the calls
 
+table-ascends : (s : State) (m : List ℕ) → AsLeft s m → Ascending idOf (stateOf s m .table)
+unfolding stateOf
+table-ascends s m l = view-ascending (s .table) (l .rows) m
+
+stored : (s : State) (m : List ℕ) → AsLeft s m → tableBytes ≤ length m → (es : List Entry) × Reachable (s .own) (s .last) (view (s .table) m) es × (s .digest ≡ digestOver es)
+unfolding stateOf
+stored s m l room = (
+  reached (s .own) (s .last) (view (s .table) m),
+  reachable (s .own) (s .last) (view (s .table) m) (view-ascending (s .table) (l .rows) m),
+  l .valid room .digest ∙ states-read-back .digest (s .own) (s .last) (view (s .table) m),
+)
+
 module _ (clock : ℕ) (s : State) (m : List ℕ) where
-  abbrev counted : List Entry
+  abbrev pub counted : List Entry
   counted = reached (s .own) clock (view (s .table) m)
 
-  marks-counted : (r : Marked) → Marks clock s m r → r .number ≡ 0
+  pub marks-counted : (r : Marked) → Marks clock s m r → r .number ≡ 0
       → marksOf r ≡ record { number = 0; nodes = map idOf counted; digest = networkDigest (s .own) clock (view (s .table) m) }
   unfolding marks stateOf
   marks-counted r h z =
-      let n : r .number ≡ refusalMarks clock (length m) (stateOf s m) = ap (λ (x : ModelMarks). x .number) h ∙ refusals-exact .marking clock (length m) (stateOf s m) .answered in
-      h ∙ sym (as-accepted (r .number) (refusalMarks clock (length m) (stateOf s m)) n _ (λ k. record { number = k; nodes = []; digest = replicate 16 0 }) z)
+      let n : r .number ≡ refusalMarks clock (length m) (stateOf s m) = ap (λ (x : ModelMarks). x .number) (h .is) ∙ refusals-exact .marking clock (length m) (stateOf s m) .answered in
+      h .is ∙ sym (as-accepted (r .number) (refusalMarks clock (length m) (stateOf s m)) n _ (λ k. record { number = k; nodes = []; digest = replicate 16 0 }) z)
 
-  sum-counted : (r : Summed) → SumsUp clock s m r → r .number ≡ 0
+  pub sum-counted : (r : Summed) → SumsUp clock s m r → r .number ≡ 0
       → summedOf r ≡ record { number = 0; value = sumOf (statements counted); unread = unreadable (paymentsIn (statements counted)) }
   unfolding stateOf
   sum-counted r h z =
       h ∙ totals-add-up .sums clock (length m) (stateOf s m) (sym (ap (λ (x : ModelSummed). x .number) h ∙ refusals-exact .sums clock (length m) (stateOf s m) .answered) ∙ z)
 
-  total-counted : (household : ℕ) (r : Summed) → Totals clock household s m r → r .number ≡ 0
+  pub total-counted : (household : ℕ) (r : Summed) → Totals clock household s m r → r .number ≡ 0
       → summedOf r ≡ record { number = 0; value = totalOf household (statements counted); unread = unreadable (paymentsIn (statements counted)) }
   unfolding stateOf
   total-counted household r h z =
       h ∙ totals-add-up .totals clock household (length m) (stateOf s m) (sym (ap (λ (x : ModelSummed). x .number) h ∙ refusals-exact .totals clock household (length m) (stateOf s m) .answered) ∙ z)
 
-sent-counted : (datagram : List ℕ) (clock endpoint : ℕ) (unicast : Bool) (randoms : List ℕ) (s : State) (m q : List ℕ) (r : Answer) (m′ q′ : List ℕ)
-    → Receives datagram clock endpoint unicast randoms s m q r m′ q′ → r .number ≡ 0
-    → (u : List ℕ) → In u (tlvs (take (r .length) q′)) → typeOf u ≡ 5 → SentOf s m (callOf datagram clock endpoint unicast randoms (length m) (length q)) u
-sent-counted datagram clock endpoint unicast randoms s m q r m′ q′ h z u i five =
-    let c : Call = callOf datagram clock endpoint unicast randoms (length m) (length q) in
-    let v : ModelState = stateOf s m in
-    let x : Written (contextOf v c) (tlvs datagram) (startOf v) (allTlvs (contextOf v c) (tlvs datagram) (startOf v)) = all-written (contextOf v c) (tlvs datagram) (startOf v) in
-    let n : receive c v .number ≡ 0 = sym (ap (λ (a : ModelAnswer). a .number) (h .is)) ∙ z in
-    let b : take (r .length) q′ ≡ joinAll (x .us) = ap (λ (a : ModelAnswer). a .bytes) (h .is ∙ each-at-its-turn .call c v n) ∙ x .out in
-    x .fair u (subst (λ (us : List (List ℕ)). In u us) (ap tlvs b ∙ tlvs-row (x .us) (x .whole)) i) five
+abbrev calledWith : List ℕ → ℕ → ℕ → Bool → List ℕ → List ℕ → List ℕ → Call
+calledWith datagram clock endpoint unicast randoms m q = callOf datagram clock endpoint unicast randoms (length m) (length q)
+
+module _ (datagram : List ℕ) (clock endpoint : ℕ) (unicast : Bool) (randoms : List ℕ) (s : State) (m q : List ℕ) (r : Answer) (m′ q′ : List ℕ)
+    (h : Receives datagram clock endpoint unicast randoms s m q r m′ q′) (z : r .number ≡ 0) where
+  abbrev call : Call
+  call = calledWith datagram clock endpoint unicast randoms m q
+
+  abbrev context : Context
+  context = contextOf (stateOf s m) call
+
+  abbrev start : Work
+  start = startOf (stateOf s m)
+
+  writes : Written context (tlvs datagram) start (allTlvs context (tlvs datagram) start)
+  writes = all-written context (tlvs datagram) start
+
+  -- a TLV of the answer is one of those written
+  one-written : (u : List ℕ) → In u (tlvs (take (r .length) q′)) → In u (writes .us)
+  one-written u i =
+      let n : receive call (stateOf s m) .number ≡ 0 = sym (ap (λ (a : ModelAnswer). a .number) (h .is)) ∙ z in
+      let b : take (r .length) q′ ≡ joinAll (writes .us) = ap (λ (a : ModelAnswer). a .bytes) (h .is ∙ each-at-its-turn .call call (stateOf s m) n) ∙ writes .out in
+      subst (λ (us : List (List ℕ)). In u us) (ap tlvs b ∙ tlvs-row (writes .us) (writes .whole)) i
+
+  sent-counted : (u : List ℕ) → In u (tlvs (take (r .length) q′)) → typeOf u ≡ 5 → SentOf s m call u
+  sent-counted u i five = writes .fair u (one-written u i) five
+
+  told-counted : AsLeft s m → (u : List ℕ) → In u (tlvs (take (r .length) q′)) → typeOf u ≡ 4 → ToldOf s m call u
+  told-counted l u i four =
+      let f = writes .told u (one-written u i) four in
+      let v : Work = allTlvs context (f .0) start in (
+        f .0,
+        f .1,
+        f .2,
+        f .3,
+        reached (allTlvs context (f .0) start .state .own) clock (allTlvs context (f .0) start .state .table),
+        reachable (allTlvs context (f .0) start .state .own) clock (allTlvs context (f .0) start .state .table)
+            (all-sorted context (f .0) start (table-ascends s m l)),
+        f .4 ∙ ap networkTlv (states-read-back .digest (allTlvs context (f .0) start .state .own) clock (allTlvs context (f .0) start .state .table)),
+      )
+
+-- ---- ticks
+
+-- what an accepted tick sends
+announces : (now i : ℕ) (rs : List ℕ) (s : ModelState) → let r : ModelSent = ticked now i rs s in
+    (r .bytes ≡ []) ⊎ (r .bytes ≡ endpointTlv (r .state .own) i ++ networkTlv (networkDigest (r .state .own) now (r .state .table)))
+unfolding ticked settle
+announces now i rs s =
+    go (event now (getD rs (pred i) 0) (endpointAt i (settle now rs (dropSilent now i s)) .trickle) .sends)
+  where
+    go : (b : Bool) → (cond b (announcement i (settle now rs (dropSilent now i s))) [] ≡ []) ⊎ (cond b (announcement i (settle now rs (dropSilent now i s))) [] ≡ announcement i (settle now rs (dropSilent now i s)))
+    go true = inr refl
+    go false = inl refl
+
+no-state : (own endpoint : ℕ) (d bytes : List ℕ) → (bytes ≡ []) ⊎ (bytes ≡ endpointTlv own endpoint ++ networkTlv d) → (u : List ℕ) → In u (tlvs bytes) → ¬ (typeOf u ≡ 5)
+no-state own endpoint d bytes (inl e) u i = absurd (rw (e, tlvs-row [] tt) at i)
+no-state own endpoint d bytes (inr e) u i =
+    let p : bytes ≡ joinAll (endpointTlv own endpoint ∷ networkTlv d ∷ []) = e ∙ ap (λ (l : List ℕ). endpointTlv own endpoint ++ l) (sym (append-nil (networkTlv d))) in
+    let w : Wholes (endpointTlv own endpoint ∷ networkTlv d ∷ []) = (encode-whole 3 (big32 own ++ big32 endpoint), (encode-whole 4 d, tt)) in
+    let j : In u (endpointTlv own endpoint ∷ networkTlv d ∷ []) = subst (λ (us : List (List ℕ)). In u us) (ap tlvs p ∙ tlvs-row (endpointTlv own endpoint ∷ networkTlv d ∷ []) w) i in
+    λ five. ⊎-elim (λ q. omega (arith, sym (encode-type 3 (big32 own ++ big32 endpoint)) ∙ ap typeOf (sym q) ∙ five))
+    (⊎-elim (λ q. omega (arith, sym (encode-type 4 d) ∙ ap typeOf (sym q) ∙ five)) absurd) j
+
+module _ (clock endpoint : ℕ) (randoms : List ℕ) (s : State) (m q : List ℕ) (r : Sent) (m′ q′ : List ℕ) (h : Ticks clock endpoint randoms s m q r m′ q′) (z : r .number ≡ 0) where
+  pub ticks-as : record { number = r .number; state = stateOf (r .state) m′; bytes = take (r .length) q′ } ≡ ticked clock endpoint randoms (stateOf s m)
+  unfolding tick
+  ticks-as =
+      let n : r .number ≡ refusalTick clock endpoint (length m) (length q) (stateOf s m) =
+      ap (λ (x : ModelSent). x .number) (h .is) ∙ refusals-exact .ticks clock endpoint randoms (length m) (length q) (stateOf s m) .answered in
+      h .is ∙ sym (as-accepted (r .number) (refusalTick clock endpoint (length m) (length q) (stateOf s m)) n _ (λ k. record { number = k; state = stateOf s m; bytes = [] }) z)
+
+  tick-tells : (take (r .length) q′ ≡ []) ⊎ (take (r .length) q′ ≡ endpointTlv (r .state .own) endpoint ++ networkTlv (networkDigest (r .state .own) clock (view (r .state .table) m′)))
+  unfolding stateOf
+  tick-tells =
+      subst (λ (x : ModelSent). (x .bytes ≡ []) ⊎ (x .bytes ≡ endpointTlv (x .state .own) endpoint ++ networkTlv (networkDigest (x .state .own) clock (x .state .table)))) (sym ticks-as)
+      (announces clock endpoint randoms (stateOf s m))
+
+  tick-counted : (es : List Entry) × Reachable (r .state .own) clock (view (r .state .table) m′) es
+      × ((take (r .length) q′ ≡ []) ⊎ (take (r .length) q′ ≡ endpointTlv (r .state .own) endpoint ++ networkTlv (digestOver es)))
+  tick-counted = (
+    reached (r .state .own) clock (view (r .state .table) m′),
+    reachable (r .state .own) clock (view (r .state .table) m′) (view-ascending (r .state .table) (h .left .rows) m′),
+    ⊎-elim inl (λ e. inr (e ∙ ap (λ (d : List ℕ). endpointTlv (r .state .own) endpoint ++ networkTlv d) (states-read-back .digest (r .state .own) clock (view (r .state .table) m′)))) tick-tells,
+  )
+
+  tick-stateless : (u : List ℕ) → In u (tlvs (take (r .length) q′)) → ¬ (typeOf u ≡ 5)
+  tick-stateless = no-state (r .state .own) endpoint (networkDigest (r .state .own) clock (view (r .state .table) m′)) (take (r .length) q′) tick-tells
+
+-- ---- forgetting
+
+purge-counted : (clock : ℕ) (randoms : List ℕ) (s : State) (m : List ℕ) (r : Done) → AsLeft s m → Purges clock randoms s m r → r .number ≡ 0
+    → Reachable (s .own) clock (view (s .table) m) (view (r .state .table) m)
+unfolding purge purged settle stateOf
+purge-counted clock randoms s m r l h z =
+    let n : r .number ≡ refusalPurge clock (length m) (stateOf s m) = ap (λ (x : ModelDone). x .number) (h .is) ∙ refusals-exact .purges clock randoms (length m) (stateOf s m) .answered in
+    let e : _≡_ {A = ModelDone} (record { number = r .number; state = stateOf (r .state) m }) (record { number = 0; state = purged clock randoms (stateOf s m) }) =
+    h .is ∙ sym (as-accepted (r .number) (refusalPurge clock (length m) (stateOf s m)) n (record { number = 0; state = purged clock randoms (stateOf s m) }) (λ k. record { number = k; state = stateOf s m }) z) in
+    subst (Reachable (s .own) clock (view (s .table) m)) (sym (ap (λ (x : ModelDone). x .state .table) e)) (reachable (s .own) clock (view (s .table) m) (table-ascends s m l))
 
 pub only-reachable : OnlyReachable
 only-reachable =
     record {
-      marked = λ clock s m r h z.
+      marked = λ clock s m r l h z.
           let e = marks-counted clock s m r h z in (
             counted clock s m,
-            reachable (s .own) clock (view (s .table) m),
+            reachable (s .own) clock (view (s .table) m) (view-ascending (s .table) (l .rows) m),
             ap (λ (x : ModelMarks). x .nodes) e,
             ap (λ (x : ModelMarks). x .digest) e ∙ states-read-back .digest (s .own) clock (view (s .table) m),
           );
-      summed = λ clock s m r h z.
+      summed = λ clock s m r l h z.
           let e = sum-counted clock s m r h z in
-          (counted clock s m, reachable (s .own) clock (view (s .table) m), ap (λ (x : ModelSummed). x .value) e, ap (λ (x : ModelSummed). x .unread) e);
-      totalled = λ clock household s m r h z.
+          (counted clock s m, reachable (s .own) clock (view (s .table) m) (view-ascending (s .table) (l .rows) m), ap (λ (x : ModelSummed). x .value) e, ap (λ (x : ModelSummed). x .unread) e);
+      totalled = λ clock household s m r l h z.
           let e = total-counted clock s m household r h z in
-          (counted clock s m, reachable (s .own) clock (view (s .table) m), ap (λ (x : ModelSummed). x .value) e, ap (λ (x : ModelSummed). x .unread) e);
+          (counted clock s m, reachable (s .own) clock (view (s .table) m) (view-ascending (s .table) (l .rows) m), ap (λ (x : ModelSummed). x .value) e, ap (λ (x : ModelSummed). x .unread) e);
       sent = sent-counted;
+      told = λ datagram clock endpoint unicast randoms s m q r m′ q′ l h z. told-counted datagram clock endpoint unicast randoms s m q r m′ q′ h z l;
+      ticked = tick-counted;
+      stateless = tick-stateless;
+      purged = purge-counted;
+      stored = stored;
     }

@@ -1,20 +1,21 @@
 -- Demand 3 over the calls' promises: the model's theorem, carried over to states and memories that `receive` joins. Assumes nothing.
 use mathlib.Core.Path.{_≡_, refl, sym, ap, subst, _∙_}
 use mathlib.Core.Bool.{false}
-use mathlib.Core.List.{List, [], _∷_, append-nil}
-use Prim.Native.Nat.{ℕ, _≤_, _<_}
+use mathlib.Core.List.{List, [], _∷_, _++_, append-nil, map}
+use Prim.Native.Nat.{ℕ, _-_, _≤_, _<_}
 use native.Mathlib.Omega.{arith}
-use lib.ListN.{length}
+use lib.ListN.{length, take, drop, replicate, take-append-drop}
+use lib.Seq.{length-take-le}
 use lib.Dec.{leb}
 use borrow.Author.Tests.{eqb-true, leb-true, leb-false}
-use Rattle.base.specs.Lists.{In}
+use Rattle.base.specs.Lists.{In, keep}
 use Rattle.base.specs.Sorted.{Ascending}
 use Rattle.base.proofs.Tests.{by-test}
-use Rattle.base.proofs.Lists.{in-map, map-in}
+use Rattle.base.proofs.Lists.{in-map, map-in, map-keep, keep-same}
 use Rattle.base.proofs.Sorted.{one-each}
-use Rattle.model.specs.Figures.{tableBytes, mostBytes}
+use Rattle.model.specs.Figures.{mostNodes, tableBytes, mostBytes}
 use Rattle.model.specs.Table.{Entry, Statement, idOf, statements}
-use Rattle.model.specs.Reach.{inReach}
+use Rattle.model.specs.Reach.{inReach, reached}
 use Rattle.model.specs.Digest.{networkDigest}
 use Rattle.model.specs.State.{State as ModelState}
 use Rattle.model.specs.Receive.{Call, Answer as ModelAnswer, receive}
@@ -26,8 +27,12 @@ use Rattle.table.specs.View.{view}
 use Rattle.table.proofs.Rows.{view-ascending}
 use Rattle.node.specs.View.{stateOf}
 use Rattle.node.specs.declared.State.{State}
-use Rattle.ledger.specs.Demands.{Delivery, Joined, callIn, callsOf, tableAfter, known, Delivered, DeliveryLosesNothing}
+use Rattle.model.specs.Show.{Marks as ModelMarks}
+use Rattle.ledger.specs.declared.answers.Marked.{Marked}
+use Rattle.ledger.specs.Promises.{Lists, marksOf, Marks}
+use Rattle.ledger.specs.Demands.{Delivery, Joined, callIn, callsOf, tableAfter, stateAfter, memoryAfter, known, Delivered, DeliveryLosesNothing}
 use Rattle.ledger.proofs.Left.{not-small-room}
+use Rattle.ledger.proofs.Chains.{marks-counted}
 
 -- ---- the model's state after the calls is that of the code's state and memory
 
@@ -50,10 +55,10 @@ module _ (v : ModelState) (c : Call) (short : c .table < tableBytes) where
   never : ¬ (receive c v .number ≡ 0)
   never z = omega (arith, short, not-small-room (c .table) (c .room) mostBytes (refusals-exact .receives c v .none .0 z .1 .1 .1 .0) .0)
 
-  not-accepted : accepted v c ≡ false
+  pub not-accepted : accepted v c ≡ false
   not-accepted = by-test (accepted v c) (λ b. absurd (never (eqb-true (receive c v .number) 0 b))) (λ b. b)
 
-  not-moved : next v c ≡ v
+  pub not-moved : next v c ≡ v
   not-moved = ap (λ (a : ModelAnswer). a .state) (refusals-change-nothing .receives c v never)
 
 module _ (n : ℕ) (short : n < tableBytes) where
@@ -68,7 +73,7 @@ module _ (n : ℕ) (short : n < tableBytes) where
   short-heard v (x ∷ xs) = rw (not-accepted v (callIn n x) short, not-moved v (callIn n x) short) (short-heard v xs)
 
 -- a table holds its own statements
-holds-own : (t : List Entry) → Ascending idOf t → Holds (λ (x : Statement). In x (statements t)) t
+pub holds-own : (t : List Entry) → Ascending idOf t → Holds (λ (x : Statement). In x (statements t)) t
 holds-own t a =
     record {
       ascending = a;
@@ -127,6 +132,62 @@ module _ (s : State) (m : List ℕ) where
         (λ n. let t : tableAfter s m xs ≡ tableAfter s m ys = short-alike (leb-false tableBytes (length m) n) in
         (λ k. ap (λ (l : List Entry). inReach (s .own) now l k) t, ap (λ (l : List Entry). networkDigest (s .own) now l) t))
 
+-- ---- as `marks` answers
+
+-- the answer is all in what the model has of it
+same-marked : (d e : ModelMarks) (a b : Marked) → Lists d a → Lists e b → marksOf a ≡ marksOf b → a ≡ b
+same-marked d e a b x y p =
+    let t : take (a .count) (a .nodes) ≡ take (b .count) (b .nodes) = ap (λ (k : ModelMarks). k .nodes) p in
+    let c : a .count ≡ b .count =
+    omega (arith, length-take-le (a .count) (a .nodes) (omega (arith, x .few, x .wide)), length-take-le (b .count) (b .nodes) (omega (arith, y .few, y .wide)), ap length t) in
+    let n : a .nodes ≡ b .nodes =
+    sym (take-append-drop (a .count) (a .nodes)) ∙ ap (λ (l : List ℕ). l ++ drop (a .count) (a .nodes)) t
+    ∙ ap (λ (l : List ℕ). take (b .count) (b .nodes) ++ l) (x .rest ∙ ap (λ (k : ℕ). replicate (mostNodes - k) 0) c ∙ sym (y .rest)) ∙ take-append-drop (b .count) (b .nodes) in
+    λ i. record { number = p i .number; count = c i; nodes = n i; digest = p i .digest }
+
+own-after : (s : State) (m : List ℕ) (xs : List Delivery) → Joined s m xs → stateAfter s xs .own ≡ s .own
+unfolding stateOf
+own-after s m [] j = refl
+own-after s m (x ∷ xs) j =
+    own-after (x .answer .state) (x .memory) xs (j .1) ∙ ap (λ (a : ModelAnswer). a .state .own) (j .0 .is) ∙ receive-own (callIn (length m) x) (stateOf s m)
+
+table-is : (s : State) (m : List ℕ) (xs : List Delivery) → view (stateAfter s xs .table) (memoryAfter m xs) ≡ tableAfter s m xs
+table-is s m [] = refl
+table-is s m (x ∷ xs) = table-is (x .answer .state) (x .memory) xs
+
+ids-reached : (own now : ℕ) (t : List Entry) → map idOf (reached own now t) ≡ keep (inReach own now t) (map idOf t)
+unfolding reached
+ids-reached own now t = map-keep idOf (inReach own now t) t
+
+ids-says : (t : List Entry) → map idOf t ≡ map (λ (x : Statement). x .node) (statements t)
+ids-says [] = refl
+ids-says (e ∷ t) = ap (λ (l : List ℕ). idOf e ∷ l) (ids-says t)
+
+abbrev shown : ℕ → ℕ → List Entry → ModelMarks
+shown own clock t = record { number = 0; nodes = map idOf (reached own clock t); digest = networkDigest own clock t }
+
+module _ (s : State) (m : List ℕ) (clock : ℕ) where
+  marks-after : (xs : List Delivery) → Joined s m xs → (a : Marked) → Marks clock (stateAfter s xs) (memoryAfter m xs) a → a .number ≡ 0 → marksOf a ≡ shown (s .own) clock (tableAfter s m xs)
+  marks-after xs j a h z =
+      marks-counted clock (stateAfter s xs) (memoryAfter m xs) a h z ∙ ap (λ (o : ℕ). shown o clock (view (stateAfter s xs .table) (memoryAfter m xs))) (own-after s m xs j)
+      ∙ ap (shown (s .own) clock) (table-is s m xs)
+
+  module _ (xs ys : List Delivery) (d : Delivered s m xs) (e : Delivered s m ys) (same : SameHeard (stateOf s m) (callsOf (length m) xs) (callsOf (length m) ys))
+      (u : Under clock (tableAfter s m xs)) (v : Under clock (tableAfter s m ys)) where
+    shown-alike : shown (s .own) clock (tableAfter s m xs) ≡ shown (s .own) clock (tableAfter s m ys)
+    shown-alike =
+        let r = alike s m xs ys d e same clock u v in
+        let ids : map idOf (tableAfter s m xs) ≡ map idOf (tableAfter s m ys) =
+        ids-says (tableAfter s m xs) ∙ ap (map (λ (x : Statement). x .node)) (tables s m xs ys d e same) ∙ sym (ids-says (tableAfter s m ys)) in
+        let n : map idOf (reached (s .own) clock (tableAfter s m xs)) ≡ map idOf (reached (s .own) clock (tableAfter s m ys)) =
+        ids-reached (s .own) clock (tableAfter s m xs) ∙ keep-same (inReach (s .own) clock (tableAfter s m xs)) (inReach (s .own) clock (tableAfter s m ys)) (map idOf (tableAfter s m xs)) (r .0)
+        ∙ ap (keep (inReach (s .own) clock (tableAfter s m ys))) ids ∙ sym (ids-reached (s .own) clock (tableAfter s m ys)) in
+        λ i. record { number = 0; nodes = n i; digest = r .1 i }
+
+    answers : (a b : Marked) → Marks clock (stateAfter s xs) (memoryAfter m xs) a → Marks clock (stateAfter s ys) (memoryAfter m ys) b → a .number ≡ 0 → b .number ≡ 0 → a ≡ b
+    answers a b h k y z =
+        same-marked _ _ a b h k (marks-after xs (d .joined) a h y ∙ shown-alike ∙ sym (marks-after ys (e .joined) b k z))
+
 pub delivery-loses-nothing : DeliveryLosesNothing
 delivery-loses-nothing =
-    record { kept = kept; alike = tables; marks = alike }
+    record { kept = kept; alike = tables; marks = alike; answers = λ s m xs ys d e same clock. answers s m clock xs ys d e same }

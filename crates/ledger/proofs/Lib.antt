@@ -11,4 +11,7 @@ pub mod Shown
 pub mod Premises
 pub mod Chains
 pub mod Deliveries
+pub mod Corollaries
+pub mod Calls
+pub mod Flow
 pub mod Returns

@@ -1,12 +1,12 @@
 -- The identifiers of the marked nodes, one after the other, and what `marks` answers. Assumes nothing.
-use mathlib.Core.Path.{_≡_, sym, ap, _∙_}
+use mathlib.Core.Path.{_≡_, refl, sym, ap, _∙_}
 use mathlib.Core.Bool.{Bool, true, false}
 use mathlib.Core.List.{List, [], _∷_, map, map-map}
-use Prim.Native.Nat.{ℕ, _+_, _≤_, _<_}
+use Prim.Native.Nat.{ℕ, suc, _+_, _-_, _≤_, _<_}
 use native.Mathlib.Omega.{arith}
 use native.Mathlib.Numerals.{add-one}
-use lib.ListN.{length, getD, take, set, replicate, length-set}
-use lib.Seq.{take-suc-set, take-all}
+use lib.ListN.{length, getD, take, drop, set, replicate, length-set, length-replicate}
+use lib.Seq.{take-suc-set, take-all, drop-set-lt, drop-drop}
 use Rattle.base.specs.Lists.{keepBy}
 use Rattle.base.proofs.Lists.{map-append}
 use Rattle.base.proofs.Marks.{keep-by-nil, keep-by-map, keep-by-in, keep-by-out}
@@ -25,6 +25,7 @@ use Rattle.node.specs.declared.State.{State}
 use Rattle.node.specs.View.{stateOf}
 use Rattle.ledger.specs.declared.sum.Nodes.{Nodes}
 use Rattle.ledger.specs.Inner.{Listed}
+use Rattle.ledger.specs.Promises.{Lists}
 use Rattle.ledger.proofs.Answering.{as-refused, as-accepted}
 
 -- ---- the marked rows below place i stand in the first n places of the list
@@ -33,15 +34,19 @@ pub record ListedBelow (bs : List Bool) (l : List Row) (list : List ℕ) (n i : 
   pub size : length list ≡ mostNodes
   pub most : n ≤ i
   pub is : take n list ≡ map rowId (keepBy bs (take i l))
+  pub rest : drop n list ≡ replicate (mostNodes - n) 0
 
-pub list-start : (bs : List Bool) (l : List Row) (list : List ℕ) → length list ≡ mostNodes → ListedBelow bs l list 0 0
-list-start bs l list h = record { size = h; most = omega arith; is = rw (keep-by-nil {A = Row} bs) }
+pub list-start : (bs : List Bool) (l : List Row) → ListedBelow bs l (replicate mostNodes 0) 0 0
+list-start bs l = record { size = length-replicate {A = ℕ} mostNodes 0; most = omega arith; is = rw (keep-by-nil {A = Row} bs); rest = refl }
+
+fewer : (k j : ℕ) → k ≡ suc j → drop {A = ℕ} 1 (replicate k 0) ≡ replicate j 0
+fewer k j e = rw e
 
 module _ (bs : List Bool) (l : List Row) (list : List ℕ) (n i : ℕ) (g : ListedBelow bs l list n i) where
   module _ (p : i < length l) where
     -- a row that is not marked
     pub list-stay : getD bs i false ≡ false → ListedBelow bs l list n (i + 1)
-    list-stay b = record { size = g .size; most = omega (arith, g .most); is = g .is ∙ ap (map rowId) (sym (keep-by-out blank bs l i p b)) }
+    list-stay b = record { size = g .size; most = omega (arith, g .most); is = g .is ∙ ap (map rowId) (sym (keep-by-out blank bs l i p b)); rest = g .rest }
 
     -- one more
     pub list-on : (r : Row) (x : List ℕ) → getD bs i false ≡ true → i < mostNodes → r ≡ getD l i blank → x ≡ set list n (r .id) → ListedBelow bs l x (n + 1) (i + 1)
@@ -51,10 +56,13 @@ module _ (bs : List Bool) (l : List Row) (list : List ℕ) (n i : ℕ) (g : List
           size = ap length e ∙ length-set list n (r .id) ∙ g .size;
           most = omega (arith, g .most);
           is = rw (e, add-one n, take-suc-set list n (r .id) w, g .is, keep-by-in blank bs l i p b, ← q) (sym (map-append rowId (keepBy bs (take i l)) (r ∷ [])));
+          rest =
+              ap (drop (n + 1)) e ∙ drop-set-lt (n + 1) list n (r .id) (omega arith) ∙ sym (drop-drop 1 n list) ∙ ap (drop 1) (g .rest)
+              ∙ fewer (mostNodes - n) (mostNodes - (n + 1)) (omega (arith, g .most));
         }
 
   pub list-end : (t : Table) → l ≡ live t → length l ≤ i → i ≤ mostNodes → Listed bs t (record { count = n; list = list })
-  list-end t e p q = record { few = omega (arith, g .most); is = g .is ∙ rw (take-all i l p, e) }
+  list-end t e p q = record { few = omega (arith, g .most); is = g .is ∙ rw (take-all i l p, e); wide = g .size; rest = g .rest }
 
 -- ---- as the call answers
 
@@ -77,9 +85,9 @@ module _ (now table : ℕ) (s : State) (m : List ℕ) (k : ℕ) (e : k ≡ refus
   abbrev none : ℕ → ModelMarks
   none n = answer n [] (replicate 16 0)
 
-  pub marks-refused : ¬ (k ≡ 0) → none k ≡ marks now table (stateOf s m)
+  pub marks-refused : ¬ (k ≡ 0) → Lists (marks now table (stateOf s m)) (record { number = k; count = 0; nodes = replicate mostNodes 0; digest = replicate 16 0 })
   unfolding marks
-  marks-refused z = as-refused k (refusalMarks now table (stateOf s m)) e marking none z
+  marks-refused z = record { is = as-refused k (refusalMarks now table (stateOf s m)) e marking none z; few = omega arith; wide = length-replicate {A = ℕ} mostNodes 0; rest = refl }
 
   accepted : k ≡ 0 → marking ≡ marks now table (stateOf s m)
   unfolding marks
@@ -92,5 +100,5 @@ module _ (now table : ℕ) (s : State) (m : List ℕ) (k : ℕ) (e : k ≡ refus
         same-answer (h .is ∙ ids-seen (x .marks) (s .table) m ∙ ap (map idOf) (reached-by (s .own) now (view (s .table) m) (x .marks) (g .marks)))
         (g .digest)
 
-    pub marks-accepted : k ≡ 0 → answer 0 (take (r .count) (r .list)) (x .digest) ≡ marks now table (stateOf s m)
-    marks-accepted z = found ∙ accepted z
+    pub marks-accepted : k ≡ 0 → Lists (marks now table (stateOf s m)) (record { number = 0; count = r .count; nodes = r .list; digest = x .digest })
+    marks-accepted z = record { is = found ∙ accepted z; few = h .few; wide = h .wide; rest = h .rest }

@@ -7,17 +7,21 @@ use Prim.Native.Nat.{ℕ, _≤_}
 use lib.ListN.{length, take}
 use Rattle.base.specs.Bytes.{big32}
 use Rattle.base.specs.Lists.{In, joinAll}
+use Rattle.base.specs.Signed.{sumℤ}
+use Rattle.base.specs.Sorted.{Ascending}
 use Rattle.sha256.specs.Sha256.{hash16}
 use Rattle.wire.specs.Row.{typeOf, tlvs}
+use Rattle.wire.specs.Payment.{mostHousehold}
+use Rattle.model.specs.Figures.{tableBytes}
 use Rattle.model.specs.Table.{Entry, Statement, idOf, statements}
-use Rattle.model.specs.Messages.{shortState, wholeState}
+use Rattle.model.specs.Messages.{endpointTlv, networkTlv, shortState, wholeState}
 use Rattle.model.specs.Begin.{Done as ModelDone}
 use Rattle.model.specs.Tick.{Sent as ModelSent}
 use Rattle.model.specs.Totals.{totalOf, sumOf, unreadable, paymentsIn}
 use Rattle.model.specs.Handle.{Work as ModelWork, allTlvs}
 use Rattle.model.specs.Receive.{Call, Answer as ModelAnswer, contextOf, startOf}
 use Rattle.model.specs.Delivery.{heldOrHeard, Lone, Close, distinct, Holds, SameHeard, Under}
-use Rattle.model.specs.Theorems.{Chained}
+use Rattle.model.specs.Theorems.{Chained, upFrom, Form}
 use Rattle.model.specs.Reach.{inReach}
 use Rattle.model.specs.Digest.{networkDigest}
 use Rattle.table.specs.View.{view}
@@ -29,7 +33,7 @@ use Rattle.ledger.specs.declared.answers.Sent.{Sent}
 use Rattle.ledger.specs.declared.answers.Answer.{Answer}
 use Rattle.ledger.specs.declared.answers.Summed.{Summed}
 use Rattle.ledger.specs.declared.answers.Marked.{Marked}
-use Rattle.ledger.specs.Promises.{AsLeft, Blank, Changes, Sends, Answers, Receives, Totals, SumsUp, Marks}
+use Rattle.ledger.specs.Promises.{AsLeft, Blank, Changes, Sends, Answers, Receives, Ticks, Purges, Totals, SumsUp, Marks}
 
 -- ---- demand 1: "The caller hands back state and table as the last call left them and need check nothing"
 
@@ -48,9 +52,14 @@ pub record OnePremise : Type 0 where
 
 -- ---- demand 2: "Only such boxes enter the network digest, a total or a Node State we send"
 
--- exactly the entries of the table to which a chain leads, ascending
+-- exactly the entries of the table to which a chain leads, each once, ascending
 pub record Reachable (own clock : ℕ) (t es : List Entry) : Type 0 where
   pub exactly : (e : Entry) → In e es ↔ (In e t × Chained own clock t (idOf e))
+  pub ascending : Ascending idOf es
+
+-- "H over, .. by ascending identifier, number (4 bytes) and H(data)"
+abbrev pub digestOver : List Entry → List ℕ
+digestOver es = hash16 (joinAll (map (λ (e : Entry). big32 (e .says .seq) ++ hash16 (e .says .nodeData)) es))
 
 -- u is a Node State of a node that a chain reached at the moment when one of the datagram's TLVs was handled
 abbrev pub SentOf : State → List ℕ → Call → List ℕ → Type 0
@@ -59,18 +68,40 @@ SentOf s m c u =
     (let w : ModelWork = allTlvs (contextOf (stateOf s m) c) before (startOf (stateOf s m)) in
     In e (w .state .table) × Chained (w .state .own) (c .now) (w .state .table) (idOf e)) × ((u ≡ shortState (c .now) e) ⊎ (u ≡ wholeState (c .now) e))
 
+-- u is a Network State with the digest over exactly the nodes that a chain reached at such a moment
+abbrev pub ToldOf : State → List ℕ → Call → List ℕ → Type 0
+ToldOf s m c u =
+    (before : List (List ℕ)) × (t : List ℕ) × (later : List (List ℕ)) × (tlvs (c .datagram) ≡ before ++ (t ∷ later)) × (es : List Entry) ×
+    (let w : ModelWork = allTlvs (contextOf (stateOf s m) c) before (startOf (stateOf s m)) in
+    Reachable (w .state .own) (c .now) (w .state .table) es) × (u ≡ networkTlv (digestOver es))
+
 pub record OnlyReachable : Type 0 where
-  pub marked : (clock : ℕ) (s : State) (m : List ℕ) (r : Marked) → Marks clock s m r → r .number ≡ 0
-      → (es : List Entry) × Reachable (s .own) clock (view (s .table) m) es × (take (r .count) (r .nodes) ≡ map idOf es)
-      × (r .digest ≡ hash16 (joinAll (map (λ (e : Entry). big32 (e .says .seq) ++ hash16 (e .says .nodeData)) es)))
-  pub summed : (clock : ℕ) (s : State) (m : List ℕ) (r : Summed) → SumsUp clock s m r → r .number ≡ 0
+  pub marked : (clock : ℕ) (s : State) (m : List ℕ) (r : Marked) → AsLeft s m → Marks clock s m r → r .number ≡ 0
+      → (es : List Entry) × Reachable (s .own) clock (view (s .table) m) es × (take (r .count) (r .nodes) ≡ map idOf es) × (r .digest ≡ digestOver es)
+  pub summed : (clock : ℕ) (s : State) (m : List ℕ) (r : Summed) → AsLeft s m → SumsUp clock s m r → r .number ≡ 0
       → (es : List Entry) × Reachable (s .own) clock (view (s .table) m) es × (r .value ≡ sumOf (statements es)) × (r .unread ≡ unreadable (paymentsIn (statements es)))
-  pub totalled : (clock household : ℕ) (s : State) (m : List ℕ) (r : Summed) → Totals clock household s m r → r .number ≡ 0
+  pub totalled : (clock household : ℕ) (s : State) (m : List ℕ) (r : Summed) → AsLeft s m → Totals clock household s m r → r .number ≡ 0
       → (es : List Entry) × Reachable (s .own) clock (view (s .table) m) es × (r .value ≡ totalOf household (statements es))
       × (r .unread ≡ unreadable (paymentsIn (statements es)))
+  -- what a datagram is answered with: Node States and Network States
   pub sent : (datagram : List ℕ) (clock endpoint : ℕ) (unicast : Bool) (randoms : List ℕ) (s : State) (m q : List ℕ) (r : Answer) (m′ q′ : List ℕ)
       → Receives datagram clock endpoint unicast randoms s m q r m′ q′ → r .number ≡ 0
       → (u : List ℕ) → In u (tlvs (take (r .length) q′)) → typeOf u ≡ 5 → SentOf s m (callOf datagram clock endpoint unicast randoms (length m) (length q)) u
+  pub told : (datagram : List ℕ) (clock endpoint : ℕ) (unicast : Bool) (randoms : List ℕ) (s : State) (m q : List ℕ) (r : Answer) (m′ q′ : List ℕ) → AsLeft s m
+      → Receives datagram clock endpoint unicast randoms s m q r m′ q′ → r .number ≡ 0
+      → (u : List ℕ) → In u (tlvs (take (r .length) q′)) → typeOf u ≡ 4 → ToldOf s m (callOf datagram clock endpoint unicast randoms (length m) (length q)) u
+  -- what a tick sends: nothing, or our Node Endpoint TLV and the digest of the table that it leaves; never a Node State
+  pub ticked : (clock endpoint : ℕ) (randoms : List ℕ) (s : State) (m q : List ℕ) (r : Sent) (m′ q′ : List ℕ) → Ticks clock endpoint randoms s m q r m′ q′ → r .number ≡ 0
+      → (es : List Entry) × Reachable (r .state .own) clock (view (r .state .table) m′) es
+      × ((take (r .length) q′ ≡ []) ⊎ (take (r .length) q′ ≡ endpointTlv (r .state .own) endpoint ++ networkTlv (digestOver es)))
+  pub stateless : (clock endpoint : ℕ) (randoms : List ℕ) (s : State) (m q : List ℕ) (r : Sent) (m′ q′ : List ℕ) → Ticks clock endpoint randoms s m q r m′ q′ → r .number ≡ 0
+      → (u : List ℕ) → In u (tlvs (take (r .length) q′)) → ¬ (typeOf u ≡ 5)
+  -- what is left when the others are forgotten
+  pub purged : (clock : ℕ) (randoms : List ℕ) (s : State) (m : List ℕ) (r : Done) → AsLeft s m → Purges clock randoms s m r → r .number ≡ 0
+      → Reachable (s .own) clock (view (s .table) m) (view (r .state .table) m)
+  -- the digest that a state has, whatever call left it
+  pub stored : (s : State) (m : List ℕ) → AsLeft s m → tableBytes ≤ length m
+      → (es : List Entry) × Reachable (s .own) (s .last) (view (s .table) m) es × (s .digest ≡ digestOver es)
 
 -- ---- demand 3: "The order of delivery can't lose a payment"
 
@@ -105,6 +136,15 @@ abbrev pub tableAfter : State → List ℕ → List Delivery → List Entry
 tableAfter s m [] = view (s .table) m
 tableAfter s m (x ∷ xs) = tableAfter (x .answer .state) (x .memory) xs
 
+-- state and table memory then
+abbrev pub stateAfter : State → List Delivery → State
+stateAfter s [] = s
+stateAfter s (x ∷ xs) = stateAfter (x .answer .state) xs
+
+abbrev pub memoryAfter : List ℕ → List Delivery → List ℕ
+memoryAfter m [] = m
+memoryAfter m (x ∷ xs) = memoryAfter (x .memory) xs
+
 -- statements held at the start or heard in an accepted call
 abbrev pub known : State → List ℕ → List Delivery → List Statement
 known s m xs = heldOrHeard (stateOf s m) (callsOf (length m) xs)
@@ -129,3 +169,27 @@ pub record DeliveryLosesNothing : Type 0 where
       → (now : ℕ) → Under now (tableAfter s m xs) → Under now (tableAfter s m ys)
       → ((n : ℕ) → inReach (s .own) now (tableAfter s m xs) n ≡ inReach (s .own) now (tableAfter s m ys) n)
       × (networkDigest (s .own) now (tableAfter s m xs) ≡ networkDigest (s .own) now (tableAfter s m ys))
+  -- over the calls that show them: where `marks` is accepted after both lists, both answers are the same
+  pub answers : (s : State) (m : List ℕ) (xs ys : List Delivery) → Delivered s m xs → Delivered s m ys
+      → SameHeard (stateOf s m) (callsOf (length m) xs) (callsOf (length m) ys)
+      → (clock : ℕ) → Under clock (tableAfter s m xs) → Under clock (tableAfter s m ys)
+      → (a b : Marked) → Marks clock (stateAfter s xs) (memoryAfter m xs) a → Marks clock (stateAfter s ys) (memoryAfter m ys) b → a .number ≡ 0 → b .number ≡ 0 → a ≡ b
+
+-- ---- what the model's theorems say, over the promises
+
+pub record OverPromises : Type 0 where
+  -- after two ticks at one reading nothing is due on that endpoint: a third, accepted or not, sends nothing and changes nothing
+  pub ticks : (clock endpoint : ℕ) (s : State) (m : List ℕ) → AsLeft s m
+      → (rs q : List ℕ) (a : Sent) (m₁ q₁ : List ℕ) → Ticks clock endpoint rs s m q a m₁ q₁ → a .number ≡ 0
+      → (rs₂ p : List ℕ) (b : Sent) (m₂ p₂ : List ℕ) → Ticks clock endpoint rs₂ (a .state) m₁ p b m₂ p₂ → b .number ≡ 0
+      → (rs₃ o : List ℕ) (c : Sent) (m₃ o₃ : List ℕ) → Ticks clock endpoint rs₃ (b .state) m₂ o c m₃ o₃
+      → (c .length ≡ 0) × (o₃ ≡ o) × (stateOf (c .state) m₃ ≡ stateOf (b .state) m₂)
+  -- the totals of all households add up to the sum
+  pub households : (clock : ℕ) (s : State) (m : List ℕ) (r : Summed) → SumsUp clock s m r → r .number ≡ 0
+      → (t : ℕ → Summed) → ((h : ℕ) → 1 ≤ h → h ≤ mostHousehold → Totals clock h s m (t h))
+      → sumℤ (map (λ (h : ℕ). t h .value) (upFrom mostHousehold 1)) ≡ r .value
+  -- all that is sent is a row of whole TLVs, our Node Endpoint TLV first, within 4,096 bytes
+  pub answered : (datagram : List ℕ) (clock endpoint : ℕ) (unicast : Bool) (randoms : List ℕ) (s : State) (m q : List ℕ) (r : Answer) (m′ q′ : List ℕ)
+      → Receives datagram clock endpoint unicast randoms s m q r m′ q′ → Form (s .own) endpoint (take (r .length) q′)
+  pub announced : (clock endpoint : ℕ) (randoms : List ℕ) (s : State) (m q : List ℕ) (r : Sent) (m′ q′ : List ℕ)
+      → Ticks clock endpoint randoms s m q r m′ q′ → Form (s .own) endpoint (take (r .length) q′)

@@ -2,8 +2,8 @@
 use mathlib.Core.Path.{_≡_}
 use mathlib.Core.Bool.{Bool}
 use mathlib.Core.List.{List, map}
-use Prim.Native.Nat.{ℕ, _≤_}
-use lib.ListN.{take}
+use Prim.Native.Nat.{ℕ, _-_, _≤_}
+use lib.ListN.{length, take, drop, replicate}
 use Rattle.base.specs.Lists.{keepBy}
 use Rattle.model.specs.Figures.{mostNodes}
 use Rattle.model.specs.State.{State}
@@ -21,7 +21,9 @@ pub record Summing (w : Whose) (now : ℕ) (s : State) (r : Summed) : Type 0 whe
   pub value : r .value ≡ sumFor w (reachable now s)
   pub unread : r .unread ≡ unreadable (paymentsIn (reachable now s))
 
--- the identifiers of the marked rows, in the table's order
+-- the identifiers of the marked rows, in the table's order, and nothing behind them
 pub record Listed (marks : List Bool) (t : Table) (r : Nodes) : Type 0 where
   pub few : r .count ≤ mostNodes
   pub is : take (r .count) (r .list) ≡ map rowId (keepBy marks (live t))
+  pub wide : length (r .list) ≡ mostNodes
+  pub rest : drop (r .count) (r .list) ≡ replicate (mostNodes - r .count) 0

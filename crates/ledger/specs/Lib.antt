@@ -1,4 +1,5 @@
 pub mod Promises
 pub mod Inner
 pub mod Demands
+pub mod Calls
 pub mod Returning

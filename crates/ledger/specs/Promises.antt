@@ -2,9 +2,9 @@
 use mathlib.Core.Path.{_≡_}
 use mathlib.Core.Bool.{Bool}
 use mathlib.Core.List.{List}
-use Prim.Native.Nat.{ℕ, _+_, _*_, _≤_}
-use lib.ListN.{length, take, drop}
-use Rattle.model.specs.Figures.{dataLimit, tableBytes}
+use Prim.Native.Nat.{ℕ, _+_, _-_, _*_, _≤_}
+use lib.ListN.{length, take, drop, replicate}
+use Rattle.model.specs.Figures.{mostNodes, dataLimit, tableBytes}
 use Rattle.wire.specs.Payment.{Payment}
 use Rattle.model.specs.Begin.{Done as ModelDone, blank, begin}
 use Rattle.model.specs.Tick.{Sent as ModelSent, tick}
@@ -74,9 +74,15 @@ pub record Answers (d : ModelAnswer) (s : State) (m q : List ℕ) (r : Answer) (
 abbrev pub summedOf : Summed → ModelSummed
 summedOf r = record { number = r .number; value = r .value; unread = r .unread }
 
--- marks
+-- marks: the nodes are the first places of the list, at most 32; the places behind them are 0, of a refusal all
 abbrev pub marksOf : Marked → ModelMarks
 marksOf r = record { number = r .number; nodes = take (r .count) (r .nodes); digest = r .digest }
+
+pub record Lists (d : ModelMarks) (r : Marked) : Type 0 where
+  pub is : marksOf r ≡ d
+  pub few : r .count ≤ mostNodes
+  pub wide : length (r .nodes) ≡ mostNodes
+  pub rest : drop (r .count) (r .nodes) ≡ replicate (mostNodes - r .count) 0
 
 -- save
 pub record SavesTo (d : ModelSaved) (q : List ℕ) (r : Saved) (q′ : List ℕ) : Type 0 where
@@ -124,7 +130,7 @@ abbrev pub SumsUp : ℕ → State → List ℕ → Summed → Type 0
 SumsUp clock s m r = summedOf r ≡ sum clock (length m) (stateOf s m)
 
 abbrev pub Marks : ℕ → State → List ℕ → Marked → Type 0
-Marks clock s m r = marksOf r ≡ marks clock (length m) (stateOf s m)
+Marks clock s m r = Lists (marks clock (length m) (stateOf s m)) r
 
 abbrev pub Saves : ℕ → State → List ℕ → List ℕ → Saved → List ℕ → Type 0
 Saves clock s m q r q′ = SavesTo (save clock (length m) (length q) (stateOf s m)) q r q′

@@ -11,6 +11,8 @@ pub mod KeptReceive
 pub mod KeptTick
 pub mod Snapshots
 pub mod KeptCalls
+pub mod Others
+pub mod Traffic
 pub mod Kept
 pub mod Totals
 pub mod Served

@@ -3,7 +3,7 @@ use mathlib.Core.Path.{_≡_, refl, sym, ap, _∙_, subst}
 use mathlib.Core.Bool.{true, false, cond}
 use mathlib.Core.List.{List, [], _∷_, _++_, map}
 use mathlib.Core.Option.{none, some}
-use mathlib.Core.Logic.{inl, ⊎-elim}
+use mathlib.Core.Logic.{inl, inr, ⊎-elim}
 use Prim.Native.Nat.{ℕ, _≤_, _<_}
 use native.Mathlib.Omega.{arith}
 use lib.ListN.{length, length-map}
@@ -79,12 +79,20 @@ distinct-ascending : (ns : List ℕ) → Ascending itself (distinct ns)
 distinct-ascending [] = tt
 distinct-ascending (k ∷ ns) = insert-ascending itself k (distinct ns) (distinct-ascending ns)
 
--- sorted statements are no more than the nodes of all
-no-more : (l all : List Statement) → Sorted l → Within l all → length l ≤ length (distinct (map nodeOf all))
-no-more l all s w =
+pub more-distinct : (ns ms : List ℕ) → ((n : ℕ) → In n ns → In n ms) → length (distinct ns) ≤ length (distinct ms)
+more-distinct ns ms w =
+    no-longer itself (distinct ns) (distinct ms) (distinct-ascending ns) (distinct-ascending ms) (λ n m. distinct-in n ms (w n (in-distinct n ns m)))
+  where
+    in-distinct : (n : ℕ) (ns : List ℕ) → In n (distinct ns) → In n ns
+    in-distinct n [] m = m
+    in-distinct n (k ∷ ns) m = ⊎-elim inl (λ r. inr (in-distinct n ns (r .0))) (insert-cases itself k n (distinct ns) (distinct-ascending ns) m)
+
+-- sorted statements are no more than the nodes that they are of
+pub no-more : (l : List Statement) (ns : List ℕ) → Sorted l → ((x : Statement) → In x l → In (x .node) ns) → length l ≤ length (distinct ns)
+no-more l ns s w =
     rw (sym (length-map l nodeOf))
-    (no-longer itself (map nodeOf l) (distinct (map nodeOf all)) (keys-ascending nodeOf l s) (distinct-ascending (map nodeOf all))
-    (λ n m. let r = keys-in nodeOf n l m in distinct-in n (map nodeOf all) (rw (sym (r .2)) (in-keys nodeOf (r .0) all (w (r .0) (r .1))))))
+    (no-longer itself (map nodeOf l) (distinct ns) (keys-ascending nodeOf l s) (distinct-ascending ns)
+    (λ n m. let r = keys-in nodeOf n l m in distinct-in n ns (rw (sym (r .2)) (w (r .0) (r .1)))))
 
 -- ---- all the statements of an exchange
 
@@ -146,7 +154,7 @@ module _ (all : List Statement) (a : Agreed all) where
         within y m = ⊎-elim (λ e. rw e mx) (λ r. stood y (r .0)) (insert-cases nodeOf x y l (h .sorted) m)
 
         room : find nodeOf (x .node) l ≡ none → length l < mostNodes
-        room n = omega (arith, no-more (insert nodeOf x l) all (insert-ascending nodeOf x l (h .sorted)) within, insert-length nodeOf x l n, a .few)
+        room n = omega (arith, no-more (insert nodeOf x l) (map nodeOf all) (insert-ascending nodeOf x l (h .sorted)) (λ y m. in-keys nodeOf y all (within y m)), insert-length nodeOf x l n, a .few)
 
     comes-from : (y : Statement) → In y (absorb x l) → In y (ys ++ (x ∷ []))
     comes-from y =

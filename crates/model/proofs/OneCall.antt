@@ -112,14 +112,14 @@ refused-same s c e = no-answer (refusalReceive c s) (answered c (handled s c)) s
 
 -- ---- what a call does to our identifier and the table
 
-abbrev seen : State → ℕ × List Entry
+abbrev pub seen : State → ℕ × List Entry
 seen s = (s .own, s .table)
 
-accepted-seen : (s : State) (c : Call) → accepted s c ≡ true → seen (next s c) ≡ seen (handled s c .state)
+pub accepted-seen : (s : State) (c : Call) → accepted s c ≡ true → seen (next s c) ≡ seen (handled s c .state)
 unfolding receive settle
 accepted-seen s c e = ap (λ (a : Answer). seen (a .state)) (answer (refusalReceive c s) (answered c (handled s c)) s e)
 
-touch-seen : (c : Context) (w : Work) → seen (touch c w .state) ≡ seen (w .state)
+pub touch-seen : (c : Context) (w : Work) → seen (touch c w .state) ≡ seen (w .state)
 unfolding touch
 touch-seen c w = go (w .sender)
   where
@@ -127,11 +127,11 @@ touch-seen c w = go (w .sender)
     go none = refl
     go (some f) = refl
 
-reply-seen : (c : Context) (t : List ℕ) (w : Work) → seen (reply c t w .state) ≡ seen (w .state)
+pub reply-seen : (c : Context) (t : List ℕ) (w : Work) → seen (reply c t w .state) ≡ seen (w .state)
 unfolding reply
 reply-seen c t w = by-test (fits c t w) (λ b. rw b) (λ b. rw b)
 
-carry-seen : (c : Context) (d : Decision) (w : Work) → seen (carryOut c d w .state) ≡ (w .state .own, after d (w .state .table))
+pub carry-seen : (c : Context) (d : Decision) (w : Work) → seen (carryOut c d w .state) ≡ (w .state .own, after d (w .state .table))
 unfolding carryOut after
 carry-seen c Decision.ignored w = refl
 carry-seen c (Decision.ask n) w = reply-seen c (requestNodeTlv n) w
@@ -139,11 +139,11 @@ carry-seen c (Decision.takeNumber e) w = refl
 carry-seen c (Decision.takeAll e) w = refl
 carry-seen c Decision.dropped w = refl
 
-on-state : (c : Context) (y : ℕ) (v : List ℕ) (w : Work) → y ≡ 5 → leb 28 (length v) ≡ true → onTlv c y v w ≡ onState c (receivedOf v) w
+pub on-state : (c : Context) (y : ℕ) (v : List ℕ) (w : Work) → y ≡ 5 → leb 28 (length v) ≡ true → onTlv c y v w ≡ onState c (receivedOf v) w
 unfolding onTlv
 on-state c y v w e l = rw (e, l)
 
-on-foreign : (c : Context) (r : Received) (w : Work) → ¬ (r .node ≡ w .state .own) → onState c r w ≡ carryOut c (decide (c .now) (w .state .table) r) w
+pub on-foreign : (c : Context) (r : Received) (w : Work) → ¬ (r .node ≡ w .state .own) → onState c r w ≡ carryOut c (decide (c .now) (w .state .table) r) w
 unfolding onState
 on-foreign c r w ne = rw (ne-eqb (r .node) (w .state .own) ne)
 
@@ -151,7 +151,7 @@ either-seen : (b : Bool) (v w : Work) → seen (v .state) ≡ seen (w .state) �
 either-seen true v w e = e
 either-seen false v w e = refl
 
-one-seen : (c : Context) (t : List ℕ) (w : Work) → seen (oneTlv c t w .state) ≡ seen (onTlv c (typeOf t) (valueOf t) w .state)
+pub one-seen : (c : Context) (t : List ℕ) (w : Work) → seen (oneTlv c t w .state) ≡ seen (onTlv c (typeOf t) (valueOf t) w .state)
 unfolding oneTlv
 one-seen c t w = let v = onTlv c (typeOf t) (valueOf t) w in either-seen (c .unicast) (touch c v) v (touch-seen c v)
 
@@ -177,11 +177,11 @@ module _ (now : ℕ) (t : List Entry) (r : Received) (d : List ℕ) (h : Carries
       by-test (eqb (g .says .seq) (r .seq))
       (λ b. rw (l, o, b, single (eqb-true (g .says .seq) (r .seq) b), h .hashed)) (λ b. rw (l, o, b))
 
-  takes-all : statements (after (Decision.takeAll (taken now r d)) t) ≡ insert nodeOf (said r d) (statements t)
+  pub takes-all : statements (after (Decision.takeAll (taken now r d)) t) ≡ insert nodeOf (said r d) (statements t)
   unfolding after put
   takes-all = insert-map saysOf nodeOf (taken now r d) t
 
-  decided : Welcome (said r d) (statements t) → statements (after (decide now t r) t) ≡ absorb (said r d) (statements t)
+  pub decided : Welcome (said r d) (statements t) → statements (after (decide now t r) t) ≡ absorb (said r d) (statements t)
   unfolding after
   decided k =
       by-find idOf (r .node) t

@@ -40,7 +40,7 @@ record Shaped (node endpoint : ℕ) (w : Work) : Type 0 where
   own : w .state .own ≡ node
 
 module _ (own : ℕ) (c : Context) where
-  shaped-next : {es : List Entry} {w v : Work} → Writes es c w v → Shaped own (c .endpoint) w → Shaped own (c .endpoint) v
+  shaped-next : {o w v : Work} → Writes o c w v → Shaped own (c .endpoint) w → Shaped own (c .endpoint) v
   shaped-next a s =
       record {
         us = s .us ++ a .us;

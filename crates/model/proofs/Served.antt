@@ -28,24 +28,30 @@ use Rattle.model.specs.Handle.{Context, Sender, Work, withState, withSen
 use Rattle.model.specs.Theorems.{Served}
 use Rattle.model.proofs.Cases.{piece-first, piece-later, reply-fits, reply-full, request-node-unreachable, request-node-unknown, request-node-reached}
 
--- if u is a Node State, it is that of an entry of es, without data or with data
-abbrev Fair : ℕ → List Entry → List ℕ → Type 0
-Fair now es u = typeOf u ≡ 5 → (e : Entry) × In e es × ((u ≡ shortState now e) ⊎ (u ≡ wholeState now e))
+-- if u is a Node State, it is that of an entry reachable at the moment o, without data or with data; if it is a Network State, it has the digest then
+pub record Fair (c : Context) (o : Work) (u : List ℕ) : Type 0 where
+  pub node : typeOf u ≡ 5 → (e : Entry) × In e (reachedNow c o) × ((u ≡ shortState (c .now) e) ⊎ (u ≡ wholeState (c .now) e))
+  pub network : typeOf u ≡ 4 → u ≡ networkTlv (digestNow c o)
 
-fair-other : (now : ℕ) (es : List Entry) (y : ℕ) (v : List ℕ) → ¬ (y ≡ 5) → Fair now es (encode y v)
-fair-other now es y v n e = absurd (n (sym (encode-type y v) ∙ e))
+fair-other : (c : Context) (o : Work) (y : ℕ) (v : List ℕ) → ¬ (y ≡ 5) → ¬ (y ≡ 4) → Fair c o (encode y v)
+fair-other c o y v n k =
+    record { node = λ e. absurd (n (sym (encode-type y v) ∙ e)); network = λ e. absurd (k (sym (encode-type y v) ∙ e)) }
+
+-- a Node State is no Network State
+fair-state : (c : Context) (o : Work) (v : List ℕ) (e : Entry) → In e (reachedNow c o) → (encode 5 v ≡ shortState (c .now) e) ⊎ (encode 5 v ≡ wholeState (c .now) e) → Fair c o (encode 5 v)
+fair-state c o v e i s = record { node = λ y. (e, i, s); network = λ y. absurd (let z : 5 ≡ 4 = sym (encode-type 5 v) ∙ y in omega arith) }
 
 -- nothing, or our Node Endpoint TLV first
 abbrev pub Headed : ℕ → ℕ → List (List ℕ) → Type 0
 Headed own endpoint [] = Unit {0}
 Headed own endpoint (u ∷ us) = u ≡ endpointTlv own endpoint
 
--- from w to v these TLVs were written, in the name of the same node
-pub record Writes (es : List Entry) (c : Context) (w v : Work) : Type 0 where
+-- from w to v these TLVs were written at the moment o, in the name of the same node
+pub record Writes (o : Work) (c : Context) (w v : Work) : Type 0 where
   pub us : List (List ℕ)
   pub out : v .out ≡ w .out ++ joinAll us
   pub whole : Wholes us
-  pub fair : (u : List ℕ) → In u us → Fair (c .now) es u
+  pub fair : (u : List ℕ) → In u us → Fair c o u
   pub first : length (w .out) ≡ 0 → Headed (w .state .own) (c .endpoint) us
   pub room : length (w .out) ≤ mostBytes → length (v .out) ≤ mostBytes
   pub own : v .state .own ≡ w .state .own
@@ -54,22 +60,22 @@ pub headed-append : (own endpoint : ℕ) (ts us : List (List ℕ)) → Headed ow
 headed-append own endpoint [] us h k = k refl
 headed-append own endpoint (t ∷ ts) us h k = h
 
-module _ {es : List Entry} {c : Context} where
+module _ {o : Work} {c : Context} where
   -- nothing is written
-  still : {w v : Work} → v .out ≡ w .out → v .state .own ≡ w .state .own → Writes es c w v
-  still {w} {v} o e =
+  still : {w v : Work} → v .out ≡ w .out → v .state .own ≡ w .state .own → Writes o c w v
+  still {w} {v} q e =
       record {
         us = [];
-        out = o ∙ sym (append-nil (w .out));
+        out = q ∙ sym (append-nil (w .out));
         whole = tt;
         fair = λ u m. absurd m;
         first = λ z. tt;
-        room = λ h. rw o h;
+        room = λ h. rw q h;
         own = e;
       }
 
   -- one after the other
-  after : {w v x : Work} → Writes es c w v → Writes es c v x → Writes es c w x
+  after : {w v x : Work} → Writes o c w v → Writes o c v x → Writes o c w x
   after {w} {v} {x} a b =
       record {
         us = a .us ++ b .us;
@@ -82,28 +88,28 @@ module _ {es : List Entry} {c : Context} where
       }
 
   -- another state of the same node, nothing more written
-  onward : {w v : Work} {s : State} → Writes es c w v → s .own ≡ w .state .own → Writes es c w (withState s v)
+  onward : {w v : Work} {s : State} → Writes o c w v → s .own ≡ w .state .own → Writes o c w (withState s v)
   onward a e = record { us = a .us; out = a .out; whole = a .whole; fair = a .fair; first = a .first; room = a .room; own = e }
 
-  either : (b : Bool) {w v x : Work} → Writes es c w v → Writes es c w x → Writes es c w (cond b v x)
+  either : (b : Bool) {w v x : Work} → Writes o c w v → Writes o c w x → Writes o c w (cond b v x)
   either true p q = p
   either false p q = q
 
   -- ---- replies
 
-  first-piece : (t : List ℕ) (w : Work) → Whole t → Fair (c .now) es t → fits c t w ≡ true → length (w .out) ≡ 0 → Writes es c w (withOut (w .out ++ piece c t w) w)
+  first-piece : (t : List ℕ) (w : Work) → Whole t → Fair c o t → fits c t w ≡ true → length (w .out) ≡ 0 → Writes o c w (withOut (w .out ++ piece c t w) w)
   first-piece t w k f h e =
       record {
         us = endpointTlv (w .state .own) (c .endpoint) ∷ t ∷ [];
         out = rw (piece-first c t w e, append-nil t);
         whole = (encode-whole 3 (big32 (w .state .own) ++ big32 (c .endpoint)), (k, tt));
-        fair = λ u m. ⊎-elim (λ q. rw q (fair-other (c .now) es 3 (big32 (w .state .own) ++ big32 (c .endpoint)) (omega arith))) (⊎-elim (λ q. rw q f) absurd) m;
+        fair = λ u m. ⊎-elim (λ q. rw q (fair-other c o 3 (big32 (w .state .own) ++ big32 (c .endpoint)) (omega arith) (omega arith))) (⊎-elim (λ q. rw q f) absurd) m;
         first = λ z. refl;
         room = λ l. omega (arith, leb-true (length (w .out) + length (piece c t w)) mostBytes h, length-append (w .out) (piece c t w));
         own = refl;
       }
 
-  later-piece : (t : List ℕ) (w : Work) → Whole t → Fair (c .now) es t → fits c t w ≡ true → ¬ (length (w .out) ≡ 0) → Writes es c w (withOut (w .out ++ piece c t w) w)
+  later-piece : (t : List ℕ) (w : Work) → Whole t → Fair c o t → fits c t w ≡ true → ¬ (length (w .out) ≡ 0) → Writes o c w (withOut (w .out ++ piece c t w) w)
   later-piece t w k f h n =
       record {
         us = t ∷ [];
@@ -115,61 +121,61 @@ module _ {es : List Entry} {c : Context} where
         own = refl;
       }
 
-  reply-writes : (t : List ℕ) (w : Work) → Whole t → Fair (c .now) es t → Writes es c w (reply c t w)
+  reply-writes : (t : List ℕ) (w : Work) → Whole t → Fair c o t → Writes o c w (reply c t w)
   reply-writes t w k f =
       by-test (fits c t w)
       (λ h. rw (reply-fits c t w h)
       (by-test (eqb (length (w .out)) 0) (λ e. first-piece t w k f h (eqb-true (length (w .out)) 0 e)) (λ e. later-piece t w k f h (eqb-false (length (w .out)) 0 e))))
       (λ h. rw (reply-full c t w h) (still refl refl))
 
-  replies-write : (ts : List (List ℕ)) (w : Work) → Wholes ts → ((t : List ℕ) → In t ts → Fair (c .now) es t) → Writes es c w (replies c ts w)
+  replies-write : (ts : List (List ℕ)) (w : Work) → Wholes ts → ((t : List ℕ) → In t ts → Fair c o t) → Writes o c w (replies c ts w)
   unfolding replies
   replies-write [] w k f = still refl refl
   replies-write (t ∷ ts) w k f =
       after (reply-writes t w (k .0) (f t (inl refl))) (replies-write ts (reply c t w) (k .1) (λ u m. f u (inr m)))
 
-  ask-writes : (w : Work) → Writes es c w (askNetwork c w)
+  ask-writes : (w : Work) → Writes o c w (askNetwork c w)
   unfolding askNetwork
   ask-writes w =
-      let r : Writes es c w (reply c requestNetworkTlv w) = reply-writes requestNetworkTlv w (encode-whole 1 []) (fair-other (c .now) es 1 [] (omega arith)) in
+      let r : Writes o c w (reply c requestNetworkTlv w) = reply-writes requestNetworkTlv w (encode-whole 1 []) (fair-other c o 1 [] (omega arith) (omega arith)) in
       either (mayAsk c w) (either (fits c requestNetworkTlv w) (onward r refl) r) (still refl refl)
 
-  touch-still : (w : Work) → Writes es c w (touch c w)
+  touch-still : (w : Work) → Writes o c w (touch c w)
   unfolding touch
   touch-still w = go (w .sender)
     where
-      go : (o : Option Sender) → Writes es c w (orElse o w (λ f. withState (touchBy c f (w .state)) w))
+      go : (x : Option Sender) → Writes o c w (orElse x w (λ f. withState (touchBy c f (w .state)) w))
       go none = still refl refl
       go (some f) = still refl refl
 
   -- ---- types 3, 4 and 5
 
-  greet-still : (f : Sender) (w : Work) → Writes es c w (greet c f w)
+  greet-still : (f : Sender) (w : Work) → Writes o c w (greet c f w)
   unfolding greet addPeer publishAs
   greet-still f w = either (roomForPeer (w .state)) (still refl refl) (still refl refl)
 
-  endpoint-writes : (f : Sender) (w : Work) → Writes es c w (onEndpoint c f w)
+  endpoint-writes : (f : Sender) (w : Work) → Writes o c w (onEndpoint c f w)
   unfolding onEndpoint onStranger
   endpoint-writes f w =
-      let s : Writes es c w (withSender f w) = still refl refl in
+      let s : Writes o c w (withSender f w) = still refl refl in
       either (eqb (f .node) (w .state .own)) (still refl refl)
       (either (knows c f (w .state)) s (after s (either (c .unicast) (greet-still f (withSender f w)) (ask-writes (withSender f w)))))
 
-  network-writes : (d : List ℕ) (w : Work) → Writes es c w (onNetwork c d w)
+  network-writes : (d : List ℕ) (w : Work) → Writes o c w (onNetwork c d w)
   unfolding onNetwork onEqual
   network-writes d w =
-      let t : Writes es c w (touch c w) = touch-still w in
+      let t : Writes o c w (touch c w) = touch-still w in
       either (same (digestNow c w) d) (either (c .unicast) t (onward t (t .own))) (either (c .others) (still refl refl) (ask-writes w))
 
-  carry-writes : (d : Decision) (w : Work) → Writes es c w (carryOut c d w)
+  carry-writes : (d : Decision) (w : Work) → Writes o c w (carryOut c d w)
   unfolding carryOut
   carry-writes Decision.ignored w = still refl refl
-  carry-writes (Decision.ask n) w = reply-writes (requestNodeTlv n) w (encode-whole 2 (big32 n)) (fair-other (c .now) es 2 (big32 n) (omega arith))
+  carry-writes (Decision.ask n) w = reply-writes (requestNodeTlv n) w (encode-whole 2 (big32 n)) (fair-other c o 2 (big32 n) (omega arith) (omega arith))
   carry-writes (Decision.takeNumber e) w = still refl refl
   carry-writes (Decision.takeAll e) w = still refl refl
   carry-writes Decision.dropped w = still refl refl
 
-  state-writes : (r : Received) (w : Work) → Writes es c w (onState c r w)
+  state-writes : (r : Received) (w : Work) → Writes o c w (onState c r w)
   unfolding onState onOwnState publishAs
   state-writes r w =
       either (eqb (r .node) (w .state .own)) (either (differs (ownEntry (w .state)) r) (still refl refl) (still refl refl))
@@ -181,18 +187,21 @@ short-whole : (now : ℕ) (es : List Entry) → Wholes (map (shortState now) es)
 short-whole now [] = tt
 short-whole now (e ∷ es) = (encode-whole 5 (stateHead now e), short-whole now es)
 
-short-fair : (now : ℕ) (fs es : List Entry) → ((e : Entry) → In e es → In e fs) → (u : List ℕ) → In u (map (shortState now) es) → Fair now fs u
-short-fair now fs [] h u m = absurd m
-short-fair now fs (e ∷ es) h u (inl q) = λ y. (e, h e (inl refl), inl q)
-short-fair now fs (e ∷ es) h u (inr m) = short-fair now fs es (λ f k. h f (inr k)) u m
+short-fair : (c : Context) (o : Work) (es : List Entry) → ((e : Entry) → In e es → In e (reachedNow c o)) → (u : List ℕ) → In u (map (shortState (c .now)) es) → Fair c o u
+short-fair c o [] h u m = absurd m
+short-fair c o (e ∷ es) h u (inl q) = rw q (fair-state c o (stateHead (c .now) e) e (h e (inl refl)) (inl refl))
+short-fair c o (e ∷ es) h u (inr m) = short-fair c o es (λ f k. h f (inr k)) u m
 
 module _ (c : Context) (w : Work) where
-  request-network-writes : Writes (reachedNow c w) c w (onRequestNetwork c w)
+  fair-network : (d : List ℕ) → d ≡ digestNow c w → Fair c w (networkTlv d)
+  fair-network d e = record { node = λ y. absurd (let z : 4 ≡ 5 = sym (encode-type 4 d) ∙ y in omega arith); network = λ y. ap networkTlv e }
+
+  request-network-writes : Writes w c w (onRequestNetwork c w)
   unfolding onRequestNetwork
   request-network-writes =
       replies-write (networkTlv (digestNow c w) ∷ map (shortState (c .now)) (reachedNow c w)) w
       (encode-whole 4 (digestNow c w), short-whole (c .now) (reachedNow c w))
-      (λ u m. ⊎-elim (λ q. rw q (fair-other (c .now) (reachedNow c w) 4 (digestNow c w) (omega arith))) (short-fair (c .now) (reachedNow c w) (reachedNow c w) (λ e k. k) u) m)
+      (λ u m. ⊎-elim (λ q. rw q (fair-network (digestNow c w) refl)) (short-fair c w (reachedNow c w) (λ e k. k) u) m)
 
   -- the entry of a reachable node is one of those reached
   reached-look : (n : ℕ) (e : Entry) → inReach (w .state .own) (c .now) (w .state .table) n ≡ true → look n (w .state .table) ≡ some e → In e (reachedNow c w)
@@ -201,33 +210,33 @@ module _ (c : Context) (w : Work) where
       let f : In e (w .state .table) × (idOf e ≡ n) = find-some idOf n e (w .state .table) l in
       in-keep (λ g. inReach (w .state .own) (c .now) (w .state .table) (idOf g)) e (w .state .table) (f .0) (rw (f .1) i)
 
-  request-node-writes : (n : ℕ) → Writes (reachedNow c w) c w (onRequestNode c n w)
+  request-node-writes : (n : ℕ) → Writes w c w (onRequestNode c n w)
   request-node-writes n =
       by-test (inReach (w .state .own) (c .now) (w .state .table) n) (λ i. go i (look n (w .state .table)) refl) (λ i. rw (request-node-unreachable c w n i) (still refl refl))
     where
-      go : inReach (w .state .own) (c .now) (w .state .table) n ≡ true → (o : Option Entry) → look n (w .state .table) ≡ o → Writes (reachedNow c w) c w (onRequestNode c n w)
+      go : inReach (w .state .own) (c .now) (w .state .table) n ≡ true → (o : Option Entry) → look n (w .state .table) ≡ o → Writes w c w (onRequestNode c n w)
       go i none l = rw (request-node-unknown c w n l) (still refl refl)
       go i (some e) l =
           rw (request-node-reached c w n i e l)
-          (reply-writes (wholeState (c .now) e) w (encode-whole 5 (stateHead (c .now) e ++ e .says .nodeData)) (λ y. (e, reached-look n e i l, inr refl)))
+          (reply-writes (wholeState (c .now) e) w (encode-whole 5 (stateHead (c .now) e ++ e .says .nodeData)) (fair-state c w (stateHead (c .now) e ++ e .says .nodeData) e (reached-look n e i l) (inr refl)))
 
-  tlv-writes : (type : ℕ) (v : List ℕ) → Writes (reachedNow c w) c w (onTlv c type v w)
+  tlv-writes : (type : ℕ) (v : List ℕ) → Writes w c w (onTlv c type v w)
   unfolding onTlv
   tlv-writes type v =
-      let none-written : Writes (reachedNow c w) c w w = still refl refl in
+      let none-written : Writes w c w w = still refl refl in
       either (eqb type 1) request-network-writes
       (either (eqb type 2) (either (leb 4 (length v)) (request-node-writes (u32At v 0)) none-written)
       (either (eqb type 3) (either (leb 8 (length v)) (endpoint-writes (record { node = u32At v 0; endpoint = u32At v 4 }) w) none-written)
       (either (eqb type 4) (either (leb 16 (length v)) (network-writes (take 16 v) w) none-written)
       (either (eqb type 5) (either (leb 28 (length v)) (state-writes (receivedOf v) w) none-written) none-written))))
 
-  pub one-writes : (t : List ℕ) → Writes (reachedNow c w) c w (oneTlv c t w)
+  pub one-writes : (t : List ℕ) → Writes w c w (oneTlv c t w)
   unfolding oneTlv
   one-writes t =
-      let a : Writes (reachedNow c w) c w (onTlv c (typeOf t) (valueOf t) w) = tlv-writes (typeOf t) (valueOf t) in
+      let a : Writes w c w (onTlv c (typeOf t) (valueOf t) w) = tlv-writes (typeOf t) (valueOf t) in
       either (c .unicast) (after a (touch-still (onTlv c (typeOf t) (valueOf t) w))) a
 
 -- ---- the statement
 
 pub served : Served
-served = record { only = λ c t w. let a : Writes (reachedNow c w) c w (oneTlv c t w) = one-writes c w t in (a .us, a .out, row-joined (a .us) (a .whole), a .fair) }
+served = record { only = λ c t w. let a : Writes w c w (oneTlv c t w) = one-writes c w t in (a .us, a .out, row-joined (a .us) (a .whole), λ u m. a .fair u m .node, λ u m. a .fair u m .network) }

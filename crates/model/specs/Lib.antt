@@ -21,4 +21,5 @@ pub mod Snapshot
 pub mod Invariant
 pub mod Examples
 pub mod Delivery
+pub mod Traffic
 pub mod Theorems

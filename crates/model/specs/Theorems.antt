@@ -25,7 +25,7 @@ use Rattle.model.specs.Chain.{Chain}
 use Rattle.model.specs.Digest.{networkDigest}
 use Rattle.model.specs.Trickle.{Trickle}
 use Rattle.model.specs.State.{State, Endpoint, endpointAt, settle}
-use Rattle.model.specs.Messages.{endpointTlv, shortState, wholeState}
+use Rattle.model.specs.Messages.{endpointTlv, networkTlv, shortState, wholeState}
 use Rattle.model.specs.Decide.{Received, Decision, receivedOf, decide}
 use Rattle.model.specs.Handle.{Context, Sender, Work, piece, reply, askNetwork, roomForPeer, greet, carryOut, oneTlv, allTlvs, onNetwork, digestNow}
 use Rattle.model.specs.Refusals.{Row, firstOf, late, back, noSuchEndpoint, smallTable, smallRoom, long, noRow, noHousehold, paidAlready, full, noSuchNode}
@@ -198,12 +198,14 @@ pub record CountsExact : Type 0 where
       → carryOut c Decision.dropped w ≡ record { state = w .state; sender = w .sender; out = w .out; omitted = w .omitted; dropped = w .dropped + 1 }
   pub full : (now : ℕ) (t : List Entry) (r : Received) → (decide now t r ≡ Decision.dropped) ↔ ((look (r .node) t ≡ none) × (mostNodes ≤ length t))
 
--- Only reachable nodes are served: what a TLV's handling writes is a row, and every Node State of it is about a node reachable at that moment.
+-- Only reachable nodes are served: what a TLV's handling writes is a row, every Node State of it is about a node reachable at that moment, and every
+-- Network State of it has the network digest at that moment.
 pub record Served : Type 0 where
   pub only : (c : Context) (t : List ℕ) (w : Work)
       → (us : List (List ℕ)) × (oneTlv c t w .out ≡ w .out ++ joinAll us) × (row (joinAll us) ≡ some us)
       × ((u : List ℕ) → In u us → typeOf u ≡ 5
       → (e : Entry) × In e (reached (w .state .own) (c .now) (w .state .table)) × ((u ≡ shortState (c .now) e) ⊎ (u ≡ wholeState (c .now) e)))
+      × ((u : List ℕ) → In u us → typeOf u ≡ 4 → u ≡ networkTlv (networkDigest (w .state .own) (c .now) (w .state .table)))
 
 -- What we send of a node reads back: its identifier, its sequence number, its age, at most 2^32 - 1, the digest of its data, and the data itself; sent
 -- without data, a node that publishes nothing still says so. The network digest is H over the numbers and digests of the reachable nodes; of our node
