@@ -38,15 +38,15 @@ use Rattle.accounts.proofs.Steps.{moved-readable, moved-settled}
 
 -- ---- our data
 
-pub own-fine : (now : ℕ) (s : ModelState) → Midway now s → (d : List ℕ) → d ≡ ownData s → (isRow d ≡ true) × (ascending (tlvs d) ≡ true)
-own-fine now s w d e =
+pub own-fine : (clock : ℕ) (s : ModelState) → Midway clock s → (d : List ℕ) → d ≡ ownData s → (isRow d ≡ true) × (ascending (tlvs d) ≡ true)
+own-fine clock s w d e =
     let g : good dataLimit (ownData s) ≡ true = midway-own s w .fine in
     rw e (good-row dataLimit (ownData s) g, good-rises dataLimit (ownData s) g)
 
 -- with a payment more, published under the number after ours
-module _ (now : ℕ) (p : Payment) (s : ModelState) where
+module _ (clock : ℕ) (p : Payment) (s : ModelState) where
   abbrev published : ModelState
-  published = publish now (withTlv (paymentTlv p) (ownData s)) s
+  published = publish clock (withTlv (paymentTlv p) (ownData s)) s
 
 -- ---- the payment's TLV as the code writes it: to the front of d, which becomes d′, in n bytes
 
@@ -87,16 +87,16 @@ module _ (household receipt : ℕ) (amount : ℤ) (small : SFits w32 amount) (d 
 
   -- ---- published and settled
 
-  module _ (now : ℕ) (s : State) (m : List ℕ) (old seq : ℕ) (eo : old ≡ ownSeq (stateOf s m)) (es : seq ≡ advance old 1) (r : State) (m′ : List ℕ)
-      (g : Moved (publishAs now seq (withTlv (take n d′) (ownData (stateOf s m))) (stateOf s m)) m r m′) where
-    paid-moved : Moved (published now p (stateOf s m)) m r m′
+  module _ (clock : ℕ) (s : State) (m : List ℕ) (old seq : ℕ) (eo : old ≡ ownSeq (stateOf s m)) (es : seq ≡ advance old 1) (r : State) (m′ : List ℕ)
+      (g : Moved (publishAs clock seq (withTlv (take n d′) (ownData (stateOf s m))) (stateOf s m)) m r m′) where
+    paid-moved : Moved (published clock p (stateOf s m)) m r m′
     paid-moved = moved-to g (rw (es, eo, written-tlv))
 
-    pub paid-readable : Midway now (stateOf s m) → among (paymentTlv p) (tlvs (ownData (stateOf s m))) ≡ false
-        → length (ownData (stateOf s m)) + length (paymentTlv p) ≤ dataLimit → now ≤ lastReading → Readable now (r .table) m′ × Held r m′
-    paid-readable w a l t = moved-readable paid-moved (published-midway now p (stateOf s m) w a l) t
+    pub paid-readable : Midway clock (stateOf s m) → among (paymentTlv p) (tlvs (ownData (stateOf s m))) ≡ false
+        → length (ownData (stateOf s m)) + length (paymentTlv p) ≤ dataLimit → clock ≤ lastReading → Readable clock (r .table) m′ × Held r m′
+    paid-readable w a l t = moved-readable paid-moved (published-midway clock p (stateOf s m) w a l) t
 
-    pub paid-settled : (rs : List ℕ) (x : Reached) (q : State) → Reaching (r .own) now (view (r .table) m′) x → Settled now rs (x .digest) r q
-        → Moved (paid now p rs (stateOf s m)) m q m′
+    pub paid-settled : (rs : List ℕ) (x : Reached) (q : State) → Reaching (r .own) clock (view (r .table) m′) x → Settled clock rs (x .digest) r q
+        → Moved (paid clock p rs (stateOf s m)) m q m′
     unfolding paid
     paid-settled rs x q c e = moved-settled paid-moved rs x q c e

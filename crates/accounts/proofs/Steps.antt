@@ -22,29 +22,29 @@ use Rattle.node.proofs.Moves.{moved-to, moved-then, purged-moved}
 use Rattle.node.proofs.Settling.{settled-moved}
 
 -- within a call the marking may read the table, and our own node stands there
-pub midway-readable : (now : ℕ) (s : State) (m : List ℕ) → Rep s m → Midway now (stateOf s m) → now ≤ lastReading → Readable now (s .table) m × Held s m
+pub midway-readable : (clock : ℕ) (s : State) (m : List ℕ) → Rep s m → Midway clock (stateOf s m) → clock ≤ lastReading → Readable clock (s .table) m × Held s m
 unfolding stateOf
-midway-readable now s m k w l = (fits-readable (s .own) now (s .table) m (k .table) (w .table) l, w .table .held)
+midway-readable clock s m k w l = (fits-readable (s .own) clock (s .table) m (k .table) (w .table) l, w .table .held)
 
-module _ {now : ℕ} {a : ModelState} {m : List ℕ} {r : State} {m′ : List ℕ} (h : Moved a m r m′) where
-  pub moved-readable : Midway now a → now ≤ lastReading → Readable now (r .table) m′ × Held r m′
-  moved-readable w l = midway-readable now r m′ (h .rep) (subst (Midway now) (sym (h .is)) w) l
+module _ {clock : ℕ} {a : ModelState} {m : List ℕ} {r : State} {m′ : List ℕ} (h : Moved a m r m′) where
+  pub moved-readable : Midway clock a → clock ≤ lastReading → Readable clock (r .table) m′ × Held r m′
+  moved-readable w l = midway-readable clock r m′ (h .rep) (subst (Midway clock) (sym (h .is)) w) l
 
   -- and what stands last
-  pub moved-settled : (rs : List ℕ) (x : Reached) (q : State) → Reaching (r .own) now (view (r .table) m′) x → Settled now rs (x .digest) r q → Moved (settle now rs a) m q m′
-  moved-settled rs x q g s = moved-then h (settle now rs) (settled-moved now rs (x .digest) r q m′ s (h .rep) (g .digest))
+  pub moved-settled : (rs : List ℕ) (x : Reached) (q : State) → Reaching (r .own) clock (view (r .table) m′) x → Settled clock rs (x .digest) r q → Moved (settle clock rs a) m q m′
+  moved-settled rs x q g s = moved-then h (settle clock rs) (settled-moved clock rs (x .digest) r q m′ s (h .rep) (g .digest))
 
 -- ---- only the reachable nodes stay
 
-module _ (now : ℕ) (s : State) (m : List ℕ) (k : Rep s m) (x : Reached) (g : Reaching (s .own) now (view (s .table) m) x) (t : Table) (o : Purged (x .marks) (s .table) t) where
-  purged-by : Moved (withTable (reached (stateOf s m .own) now (stateOf s m .table)) (stateOf s m)) m (putTable t s) m
+module _ (clock : ℕ) (s : State) (m : List ℕ) (k : Rep s m) (x : Reached) (g : Reaching (s .own) clock (view (s .table) m) x) (t : Table) (o : Purged (x .marks) (s .table) t) where
+  purged-by : Moved (withTable (reached (stateOf s m .own) clock (stateOf s m .table)) (stateOf s m)) m (putTable t s) m
   unfolding stateOf
-  purged-by = moved-to (purged-moved s m k t (x .marks) o) (ap (λ (l : List Entry). withTable l (stateOf s m)) (reached-by (s .own) now (view (s .table) m) (x .marks) (g .marks)))
+  purged-by = moved-to (purged-moved s m k t (x .marks) o) (ap (λ (l : List Entry). withTable l (stateOf s m)) (reached-by (s .own) clock (view (s .table) m) (x .marks) (g .marks)))
 
-  pub purged-readable : Midway now (stateOf s m) → now ≤ lastReading → Readable now t m × Held (putTable t s) m
-  purged-readable w l = moved-readable purged-by (reached-kept now (stateOf s m) w) l
+  pub purged-readable : Midway clock (stateOf s m) → clock ≤ lastReading → Readable clock t m × Held (putTable t s) m
+  purged-readable w l = moved-readable purged-by (reached-kept clock (stateOf s m) w) l
 
-  pub purged-settled : (rs : List ℕ) (y : Reached) (q : State) → Reaching (s .own) now (view t m) y → Settled now rs (y .digest) (putTable t s) q
-      → Moved (purged now rs (stateOf s m)) m q m
+  pub purged-settled : (rs : List ℕ) (y : Reached) (q : State) → Reaching (s .own) clock (view t m) y → Settled clock rs (y .digest) (putTable t s) q
+      → Moved (purged clock rs (stateOf s m)) m q m
   unfolding purged
   purged-settled rs y q f e = moved-settled purged-by rs y q f e

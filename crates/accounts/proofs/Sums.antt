@@ -31,9 +31,9 @@ use Rattle.model.specs.Table.{Entry, Statement, statements}
 use Rattle.model.specs.Totals.{totalOf, sumOf, unreadable, paymentsIn}
 use Rattle.model.proofs.Totals.{paymentsOf, payments-append, payments-counted, payments-good, payments-node, unreadable-append, tally, tally-none, tally-append, tally-mag, ofHousehold, total-is, sum-is, Summing, summing-start, summing-end, summing-pass, summing-unreadable, summing-skip, summing-pick}
 use Rattle.table.specs.declared.Table.{Table}
-use Rattle.table.specs.View.{blank, rowAt, dataOf, seen, view, Kept}
-use Rattle.table.proofs.Rows.{view-length, view-at, view-each}
-use Rattle.accounts.specs.Tallied.{sumFor, Tallied, AllGood, counted, addPaid, addTlv, Added, alone, amountLimit, mostPayments, Room}
+use Rattle.table.specs.View.{blank, metaAt, dataOf, seen, view, Kept, AllGood}
+use Rattle.table.proofs.Tables.{view-length, view-at, view-each}
+use Rattle.accounts.specs.Tallied.{sumFor, Tallied, counted, addPaid, addTlv, Added, alone, amountLimit, mostPayments, Room}
 use Rattle.accounts.specs.declared.totals.Whose.{Whose}
 use Rattle.accounts.specs.declared.totals.Total.{Total}
 
@@ -226,28 +226,28 @@ module _ (w : Whose) (marks : List Bool) (t : List Entry) where
     table-end : length t ≤ i → Tallied w (statements (keepBy marks t)) r
     table-end l = tallied w (statements (keepBy marks t)) r (rw (take-all i t l) at s)
 
--- ---- as the code goes over its table: row by row, each with its data in the table memory
+-- ---- as the code goes over its table: entry by entry, each with its data in the table memory
 
 module _ (t : Table) (m : List ℕ) (k : Kept t m) where
-  pub row-inside : (i : ℕ) → i < t .count → i < length (view t m)
-  row-inside i p = rw (view-length t (k .rows) m) p
+  pub meta-inside : (i : ℕ) → i < t .count → i < length (view t m)
+  meta-inside i p = rw (view-length t (k .arranged) m) p
 
-  pub row-says : (i : ℕ) → i < t .count → (d : List ℕ) → d ≡ dataOf m (rowAt t i) → d ≡ getD (view t m) i (seen m blank) .says .nodeData
-  row-says i p d e = e ∙ ap (λ (x : Entry). x .says .nodeData) (sym (view-at t (k .rows) m i p))
+  pub meta-says : (i : ℕ) → i < t .count → (d : List ℕ) → d ≡ dataOf m (metaAt t i) → d ≡ getD (view t m) i (seen m blank) .says .nodeData
+  meta-says i p d e = e ∙ ap (λ (x : Entry). x .says .nodeData) (sym (view-at t (k .arranged) m i p))
 
-  pub row-good : AllGood (view t m) → (i : ℕ) → i < t .count → (d : List ℕ) → d ≡ dataOf m (rowAt t i) → good dataLimit d ≡ true
-  row-good g i p d e = rw e (view-each t (k .rows) (λ x. good dataLimit (x .says .nodeData) ≡ true) m i g p)
+  pub row-good : AllGood (view t m) → (i : ℕ) → i < t .count → (d : List ℕ) → d ≡ dataOf m (metaAt t i) → good dataLimit d ≡ true
+  row-good g i p d e = rw e (view-each t (k .arranged) (λ x. good dataLimit (x .says .nodeData) ≡ true) m i g p)
 
   module _ (w : Whose) (marks : List Bool) (r : Total) (i : ℕ) (s : AddedBelow w marks (view t m) r i) where
-    pub rows-room : AllGood (view t m) → i < t .count → Room mostPayments r
-    rows-room g p = table-room w marks (view t m) r i s g (omega (arith, k .rows .most))
+    pub metas-room : AllGood (view t m) → i < t .count → Room mostPayments r
+    metas-room g p = table-room w marks (view t m) r i s g (omega (arith, k .arranged .most))
 
-    pub rows-stay : (q : Total) → i < t .count → getD marks i false ≡ false → q ≡ r → AddedBelow w marks (view t m) q (i + 1)
-    rows-stay q p b e = rw e (table-stay w marks (view t m) r i s (seen m blank) (row-inside i p) b)
+    pub metas-stay : (q : Total) → i < t .count → getD marks i false ≡ false → q ≡ r → AddedBelow w marks (view t m) q (i + 1)
+    metas-stay q p b e = rw e (table-stay w marks (view t m) r i s (seen m blank) (meta-inside i p) b)
 
-    pub rows-on : (q : Total) → i < t .count → getD marks i false ≡ true → (d : List ℕ) → d ≡ dataOf m (rowAt t i)
+    pub metas-on : (q : Total) → i < t .count → getD marks i false ≡ true → (d : List ℕ) → d ≡ dataOf m (metaAt t i)
         → (u : Total) → Added w (alone d ∷ []) r u → q ≡ u → AddedBelow w marks (view t m) q (i + 1)
-    rows-on q p b d e u a n = rw n (table-on w marks (view t m) r i s (seen m blank) (row-inside i p) d u b (row-says i p d e) a)
+    metas-on q p b d e u a n = rw n (table-on w marks (view t m) r i s (seen m blank) (meta-inside i p) d u b (meta-says i p d e) a)
 
-    pub rows-end : t .count ≤ i → Tallied w (statements (keepBy marks (view t m))) r
-    rows-end l = table-end w marks (view t m) r i s (rw (view-length t (k .rows) m) l)
+    pub metas-end : t .count ≤ i → Tallied w (statements (keepBy marks (view t m))) r
+    metas-end l = table-end w marks (view t m) r i s (rw (view-length t (k .arranged) m) l)

@@ -1,17 +1,15 @@
 -- What a sum over nodes answers, and what a payment or a purge leaves. Assumes nothing.
 use mathlib.Core.Path.{_≡_}
-use mathlib.Core.Bool.{Bool, true, cond, _||_}
+use mathlib.Core.Bool.{Bool, cond, _||_}
 use mathlib.Core.List.{List}
 use mathlib.Core.Option.{Option, none, some}
 use Prim.Native.Nat.{ℕ, _+_, _*_, _/_, _≤_}
 use lib.Dec.{eqb}
 use lib.IntN.{ℤ, _+ℤ_}
 use lib.Signed.{mag}
-use Rattle.base.specs.Lists.{All}
 use Rattle.wire.specs.Payment.{Payment, readPayment}
-use Rattle.wire.specs.Order.{good}
 use Rattle.model.specs.Figures.{mostNodes, dataLimit}
-use Rattle.model.specs.Table.{Entry, Statement}
+use Rattle.model.specs.Table.{Statement}
 use Rattle.model.specs.Totals.{totalOf, sumOf, unreadable, paymentsIn}
 use Rattle.accounts.specs.declared.totals.Whose.{Whose}
 use Rattle.accounts.specs.declared.totals.Total.{Total}
@@ -24,10 +22,6 @@ sumFor w ss = cond (w .all) (sumOf ss) (totalOf (w .household) ss)
 pub record Tallied (w : Whose) (ss : List Statement) (r : Total) : Type 0 where
   pub value : r .value ≡ sumFor w ss
   pub unread : r .unread ≡ unreadable (paymentsIn ss)
-
--- every node's data are good
-abbrev pub AllGood : List Entry → Type 0
-AllGood t = All (λ e. good dataLimit (e .says .nodeData) ≡ true) t
 
 abbrev pub paymentOf : ℕ → ℕ → ℤ → Payment
 paymentOf household receipt amount = record { household = household; receipt = receipt; amount = amount }

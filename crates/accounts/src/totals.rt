@@ -12,8 +12,8 @@ ghost use Rattle.base.specs.Lists.{keepBy};
 ghost use Rattle.wire.specs.Order.{good};
 ghost use Rattle.model.specs.Figures.{dataLimit};
 ghost use Rattle.model.specs.Table.{statements};
-ghost use Rattle.table.specs.View.{view, Kept};
-ghost use Rattle.accounts.specs.Tallied.{counted, mostPayments, Room, addTlv, Added, Tallied, alone, AllGood};
+ghost use Rattle.table.specs.View.{view, Kept, AllGood};
+ghost use Rattle.accounts.specs.Tallied.{counted, mostPayments, Room, addTlv, Added, Tallied, alone};
 
 // Whose payments are summed: every household's, or one's.
 pub struct Whose {

@@ -10,6 +10,10 @@ abbrev pub Bytes : List ℕ → Type 0
 Bytes [] = Unit {0}
 Bytes (b ∷ s) = (b < 256) × Bytes s
 
+-- the largest number of 32 bits
+abbrev pub mostU32 : ℕ
+mostU32 = 4294967295
+
 -- the number in the two, or four, bytes from place i, the highest byte first
 abbrev pub u16At : List ℕ → ℕ → ℕ
 u16At s i = getD s i 0 * 256 + getD s (i + 1) 0

@@ -18,10 +18,10 @@ use Rattle.model.specs.Figures.{mostNodes, dataLimit}
 use Rattle.model.specs.Sequence.{older}
 use Rattle.model.specs.Table.{Entry, look}
 use Rattle.model.specs.Decide.{Received, Decision, carriedIn, receivedOf, taken, withData, withoutData, wantedNew, wantedHeld, differs, decide}
-use Rattle.table.specs.View.{dataOf, seen, view, Rows, Kept, Read, Stands, Gap}
+use Rattle.table.specs.View.{dataOf, seen, view, Arranged, Kept, Read, Stands, Gap}
 use Rattle.table.specs.declared.Table.{Table}
-use Rattle.table.specs.declared.Entry.{Entry as Row}
-use Rattle.table.proofs.Rows.{look-stands, look-gap, view-length, row-hashed}
+use Rattle.table.specs.declared.Entry.{Entry as Meta}
+use Rattle.table.proofs.Tables.{look-stands, look-gap, view-length, meta-hashed}
 use Rattle.decide.specs.Decided.{decisionOf, Acts, Fine, Taken, Fields, Decides}
 use Rattle.decide.specs.declared.Decision.{Decision as Answer}
 use Rattle.base.proofs.Lists.{rest-is}
@@ -76,45 +76,45 @@ module _ (x : Entry) (r : Received) (seq : ℕ) (o : Bool) (e : o ≡ older (x .
 
 -- ---- the model's decision
 
-module _ (now : ℕ) (t : List Entry) (r : Received) where
+module _ (clock : ℕ) (t : List Entry) (r : Received) where
   module _ (x : Entry) (l : look (r .node) t ≡ some x) where
-    held-unwanted : differs x r ≡ false → decide now t r ≡ Decision.ignored
+    held-unwanted : differs x r ≡ false → decide clock t r ≡ Decision.ignored
     unfolding decide
     held-unwanted w = rw (l, w)
 
     module _ (w : differs x r ≡ true) where
-      held-all : (d : List ℕ) → r .carried ≡ some d → fine (r .hash) d ≡ true → decide now t r ≡ Decision.takeAll (taken now r d)
+      held-all : (d : List ℕ) → r .carried ≡ some d → fine (r .hash) d ≡ true → decide clock t r ≡ Decision.takeAll (taken clock r d)
       unfolding decide wantedHeld withData
       held-all d c f = rw (l, w, c, f)
 
-      held-bad : (d : List ℕ) → r .carried ≡ some d → fine (r .hash) d ≡ false → decide now t r ≡ Decision.ignored
+      held-bad : (d : List ℕ) → r .carried ≡ some d → fine (r .hash) d ≡ false → decide clock t r ≡ Decision.ignored
       unfolding decide wantedHeld withData
       held-bad d c f = rw (l, w, c, f)
 
       module _ (c : r .carried ≡ none) where
-        held-number : same (hash16 (x .says .nodeData)) (r .hash) ≡ true → decide now t r ≡ Decision.takeNumber (taken now r (x .says .nodeData))
+        held-number : same (hash16 (x .says .nodeData)) (r .hash) ≡ true → decide clock t r ≡ Decision.takeNumber (taken clock r (x .says .nodeData))
         unfolding decide wantedHeld withoutData
         held-number f = rw (l, w, c, f)
 
-        held-ask : same (hash16 (x .says .nodeData)) (r .hash) ≡ false → decide now t r ≡ Decision.ask (r .node)
+        held-ask : same (hash16 (x .says .nodeData)) (r .hash) ≡ false → decide clock t r ≡ Decision.ask (r .node)
         unfolding decide wantedHeld withoutData
         held-ask f = rw (l, w, c, f)
 
   module _ (l : look (r .node) t ≡ none) where
-    new-full : mostNodes ≤ length t → decide now t r ≡ Decision.dropped
+    new-full : mostNodes ≤ length t → decide clock t r ≡ Decision.dropped
     unfolding decide
     new-full p = rw (l, le-leb mostNodes (length t) p)
 
     module _ (p : length t < mostNodes) where
-      new-all : (d : List ℕ) → r .carried ≡ some d → fine (r .hash) d ≡ true → decide now t r ≡ Decision.takeAll (taken now r d)
+      new-all : (d : List ℕ) → r .carried ≡ some d → fine (r .hash) d ≡ true → decide clock t r ≡ Decision.takeAll (taken clock r d)
       unfolding decide wantedNew withData
       new-all d c f = rw (l, lt-leb mostNodes (length t) p, c, f)
 
-      new-bad : (d : List ℕ) → r .carried ≡ some d → fine (r .hash) d ≡ false → decide now t r ≡ Decision.ignored
+      new-bad : (d : List ℕ) → r .carried ≡ some d → fine (r .hash) d ≡ false → decide clock t r ≡ Decision.ignored
       unfolding decide wantedNew withData
       new-bad d c f = rw (l, lt-leb mostNodes (length t) p, c, f)
 
-      new-ask : r .carried ≡ none → decide now t r ≡ Decision.ask (r .node)
+      new-ask : r .carried ≡ none → decide clock t r ≡ Decision.ask (r .node)
       unfolding decide wantedNew
       new-ask c = rw (l, lt-leb mostNodes (length t) p, c)
 
@@ -123,7 +123,7 @@ module _ (now : ℕ) (t : List Entry) (r : Received) where
 abbrev heard : ℕ → ℕ → ℕ → List ℕ → List ℕ → Received
 heard node seq age h d = record { node = node; seq = seq; age = age; hash = h; carried = carriedIn h d }
 
-module _ (t : Table) (i node seq age : ℕ) (h d v : List ℕ) (k : Rows t) (x : Fields v node seq age h d) where
+module _ (t : Table) (i node seq age : ℕ) (h d v : List ℕ) (k : Arranged t) (x : Fields v node seq age h d) where
   heard-is : receivedOf v ≡ heard node seq age h d
   unfolding receivedOf
   heard-is = rw (x .node-is, x .seq-is, x .age-is, x .hash-is, x .bytes-are)
@@ -135,16 +135,16 @@ module _ (t : Table) (i node seq age : ℕ) (h d v : List ℕ) (k : Rows t) (x :
       (good-fits dataLimit d (and-left (good dataLimit d) (same (hash16 d) h) f), sym (same-is (hash16 d) h (and-right (good dataLimit d) (same (hash16 d) h) f)))
 
   decides : (r : Answer) → Acts t r → Taken t v r
-      → ((now : ℕ) (m : List ℕ) → Kept t m → decide now (view t m) (heard node seq age h d) ≡ decisionOf now t m v r) → Decides t v r
-  decides r a b e = record { acts = a; taken = b; is = λ now m g. sym (ap (decide now (view t m)) heard-is ∙ e now m g) }
+      → ((clock : ℕ) (m : List ℕ) → Kept t m → decide clock (view t m) (heard node seq age h d) ≡ decisionOf clock t m v r) → Decides t v r
+  decides r a b e = record { acts = a; taken = b; is = λ clock m g. sym (ap (decide clock (view t m)) heard-is ∙ e clock m g) }
 
-  -- about a node held, its row at place i
-  module _ (row : Row) (s : Stands t node i) (o : Read t i row) where
+  -- about a node held, its entry at place i
+  module _ (row : Meta) (s : Stands t node i) (o : Read t i row) where
     held : (m : List ℕ) → look node (view t m) ≡ some (seen m row)
-    held m = look-stands t k node i m s ∙ ap (λ (e : Row). some (seen m e)) (sym (o .same))
+    held m = look-stands t k node i m s ∙ ap (λ (e : Meta). some (seen m e)) (sym (o .same))
 
     hashed : (m : List ℕ) → Kept t m → row .hash ≡ hash16 (dataOf m row)
-    hashed m g = subst (λ (e : Row). e .hash ≡ hash16 (dataOf m e)) (sym (o .same)) (row-hashed t m i g (s .at))
+    hashed m g = subst (λ (e : Meta). e .hash ≡ hash16 (dataOf m e)) (sym (o .same)) (meta-hashed t m i g (s .at))
 
     -- w tells whether it is wanted
     module _ (w : Bool)
@@ -153,7 +153,7 @@ module _ (t : Table) (i node seq age : ℕ) (h d v : List ℕ) (k : Rows t) (x :
       differ m g = rw (← heard-is) (sym (f m v (hashed m g) (rw heard-is) (rw heard-is)))
 
       pub unwanted : not w ≡ true → Decides t v Ignored
-      unwanted p = decides Ignored tt tt (λ now m g. held-unwanted now (view t m) (heard node seq age h d) (seen m row) (held m) (differ m g ∙ not-true w p))
+      unwanted p = decides Ignored tt tt (λ clock m g. held-unwanted clock (view t m) (heard node seq age h d) (seen m row) (held m) (differ m g ∙ not-true w p))
 
       -- b tells whether data are carried
       module _ (p : not w ≡ false) (b : Bool) (e : b ≡ isSome (carriedIn h d)) where
@@ -161,13 +161,13 @@ module _ (t : Table) (i node seq age : ℕ) (h d v : List ℕ) (k : Rows t) (x :
           pub replaces : y ≡ true → Decides t v (TakeAll i true node seq age)
           replaces c =
               decides (TakeAll i true node seq age) s (tt, fine-taken (sym z ∙ c))
-              (λ now m g. rw (← x .bytes-are)
-              (held-all now (view t m) (heard node seq age h d) (seen m row) (held m) (differ m g ∙ not-false w p) d (carried-some h d (sym e ∙ q)) (sym z ∙ c)))
+              (λ clock m g. rw (← x .bytes-are)
+              (held-all clock (view t m) (heard node seq age h d) (seen m row) (held m) (differ m g ∙ not-false w p) d (carried-some h d (sym e ∙ q)) (sym z ∙ c)))
 
           pub bad-held : y ≡ false → Decides t v Ignored
           bad-held c =
               decides Ignored tt tt
-              (λ now m g. held-bad now (view t m) (heard node seq age h d) (seen m row) (held m) (differ m g ∙ not-false w p) d (carried-some h d (sym e ∙ q)) (sym z ∙ c))
+              (λ clock m g. held-bad clock (view t m) (heard node seq age h d) (seen m row) (held m) (differ m g ∙ not-false w p) d (carried-some h d (sym e ∙ q)) (sym z ∙ c))
 
         module _ (q : b ≡ false) (y : Bool) (z : y ≡ same (row .hash) h) where
           equal : (m : List ℕ) → Kept t m → same (hash16 (dataOf m row)) h ≡ y
@@ -176,44 +176,44 @@ module _ (t : Table) (i node seq age : ℕ) (h d v : List ℕ) (k : Rows t) (x :
           pub renumbers : y ≡ true → Decides t v (TakeNumber i node seq age)
           renumbers c =
               decides (TakeNumber i node seq age) s tt
-              (λ now m g. rw (← o .same)
-              (held-number now (view t m) (heard node seq age h d) (seen m row) (held m) (differ m g ∙ not-false w p) (carried-none h d (sym e ∙ q)) (equal m g ∙ c)))
+              (λ clock m g. rw (← o .same)
+              (held-number clock (view t m) (heard node seq age h d) (seen m row) (held m) (differ m g ∙ not-false w p) (carried-none h d (sym e ∙ q)) (equal m g ∙ c)))
 
           pub asks-held : y ≡ false → Decides t v (Ask node)
           asks-held c =
               decides (Ask node) tt tt
-              (λ now m g. held-ask now (view t m) (heard node seq age h d) (seen m row) (held m) (differ m g ∙ not-false w p) (carried-none h d (sym e ∙ q)) (equal m g ∙ c))
+              (λ clock m g. held-ask clock (view t m) (heard node seq age h d) (seen m row) (held m) (differ m g ∙ not-false w p) (carried-none h d (sym e ∙ q)) (equal m g ∙ c))
 
   -- about a node not held, which would stand at place i
   module _ (s : Gap t node i) where
     pub no-room : mostNodes ≤ t .count → Decides t v Dropped
-    no-room p = decides Dropped tt tt (λ now m g. new-full now (view t m) (heard node seq age h d) (look-gap t k node i m s) (rw (view-length t k m) p))
+    no-room p = decides Dropped tt tt (λ clock m g. new-full clock (view t m) (heard node seq age h d) (look-gap t k node i m s) (rw (view-length t k m) p))
 
     module _ (p : t .count < mostNodes) (b : Bool) (e : b ≡ isSome (carriedIn h d)) where
       pub asks-new : not b ≡ true → Decides t v (Ask node)
       asks-new q =
           decides (Ask node) tt tt
-          (λ now m g. new-ask now (view t m) (heard node seq age h d) (look-gap t k node i m s) (rw (view-length t k m) p) (carried-none h d (sym e ∙ not-true b q)))
+          (λ clock m g. new-ask clock (view t m) (heard node seq age h d) (look-gap t k node i m s) (rw (view-length t k m) p) (carried-none h d (sym e ∙ not-true b q)))
 
       module _ (q : not b ≡ false) (y : Bool) (z : y ≡ fine h d) where
         pub inserts : y ≡ true → Decides t v (TakeAll i false node seq age)
         inserts c =
             decides (TakeAll i false node seq age) s (p, fine-taken (sym z ∙ c))
-            (λ now m g. rw (← x .bytes-are)
-            (new-all now (view t m) (heard node seq age h d) (look-gap t k node i m s) (rw (view-length t k m) p) d
+            (λ clock m g. rw (← x .bytes-are)
+            (new-all clock (view t m) (heard node seq age h d) (look-gap t k node i m s) (rw (view-length t k m) p) d
             (carried-some h d (sym e ∙ not-false b q)) (sym z ∙ c)))
 
         pub bad-new : y ≡ false → Decides t v Ignored
         bad-new c =
             decides Ignored tt tt
-            (λ now m g. new-bad now (view t m) (heard node seq age h d) (look-gap t k node i m s) (rw (view-length t k m) p) d
+            (λ clock m g. new-bad clock (view t m) (heard node seq age h d) (look-gap t k node i m s) (rw (view-length t k m) p) d
             (carried-some h d (sym e ∙ not-false b q)) (sym z ∙ c))
 
 -- ---- the whole, from the fields that were read
 
 module _ (t : Table) (v : List ℕ) (node seq age : ℕ) (n : node ≡ u32At v 0) (s : seq ≡ u32At v 4) (a : age ≡ u32At v 8) where
   pub decided : (r : Answer) → ((u : List ℕ) → Fields u node seq age (take 16 (drop 12 v)) (take (length v - 28) (drop 28 v)) → Decides t u r)
-      → (now : ℕ) (m : List ℕ) → Kept t m → Acts t r × (Taken t v r × (decisionOf now t m v r ≡ decide now (view t m) (receivedOf v)))
-  decided r f now m g =
+      → (clock : ℕ) (m : List ℕ) → Kept t m → Acts t r × (Taken t v r × (decisionOf clock t m v r ≡ decide clock (view t m) (receivedOf v)))
+  decided r f clock m g =
       let e : Decides t v r = f v (record { node-is = n; seq-is = s; age-is = a; hash-is = refl; bytes-are = rest-is v 28 }) in
-      (e .acts, (e .taken, e .is now m g))
+      (e .acts, (e .taken, e .is clock m g))

@@ -10,17 +10,17 @@ use Rattle.model.specs.Figures.{mostNodes, dataLimit}
 use Rattle.model.specs.Table.{entryOf}
 use Rattle.model.specs.Decide.{Decision as ModelDecision, receivedOf, decide}
 use Rattle.table.specs.declared.Table.{Table}
-use Rattle.table.specs.View.{rowAt, dataOf, view, Kept, Stands, Gap}
+use Rattle.table.specs.View.{metaAt, dataOf, view, Kept, Stands, Gap}
 use Rattle.decide.specs.declared.Decision.{Decision}
 use Rattle.decide.specs.declared.Decision.the-variants.{Ignored, Ask, TakeNumber, TakeAll, Dropped}
 
 -- what it is in the model, for the table t with memory m and the received value v
 abbrev pub decisionOf : ℕ → Table → List ℕ → List ℕ → Decision → ModelDecision
-decisionOf now t m v Ignored = ModelDecision.ignored
-decisionOf now t m v (Ask node) = ModelDecision.ask node
-decisionOf now t m v (TakeNumber place node seq age) = ModelDecision.takeNumber (entryOf node seq (dataOf m (rowAt t place)) age now)
-decisionOf now t m v (TakeAll place held node seq age) = ModelDecision.takeAll (entryOf node seq (drop 28 v) age now)
-decisionOf now t m v Dropped = ModelDecision.dropped
+decisionOf clock t m v Ignored = ModelDecision.ignored
+decisionOf clock t m v (Ask node) = ModelDecision.ask node
+decisionOf clock t m v (TakeNumber place node seq age) = ModelDecision.takeNumber (entryOf node seq (dataOf m (metaAt t place)) age clock)
+decisionOf clock t m v (TakeAll place held node seq age) = ModelDecision.takeAll (entryOf node seq (drop 28 v) age clock)
+decisionOf clock t m v Dropped = ModelDecision.dropped
 
 -- the node stands at the place, or would stand there
 abbrev pub Placed : Table → ℕ → ℕ → Bool → Type 0
@@ -62,4 +62,4 @@ pub record Fields (v : List ℕ) (node seq age : ℕ) (hash bytes : List ℕ) : 
 pub record Decides (t : Table) (v : List ℕ) (d : Decision) : Type 0 where
   pub acts : Acts t d
   pub taken : Taken t v d
-  pub is : (now : ℕ) (m : List ℕ) → Kept t m → decisionOf now t m v d ≡ decide now (view t m) (receivedOf v)
+  pub is : (clock : ℕ) (m : List ℕ) → Kept t m → decisionOf clock t m v d ≡ decide clock (view t m) (receivedOf v)

@@ -6,7 +6,7 @@ use table::Entry;
 use table::Found;
 use table::Table;
 use table::find;
-use table::row_at;
+use table::meta_at;
 use wire::order::is_good;
 use wire::order::is_same;
 ghost use mathlib.Core.Path.{_≡_};
@@ -20,7 +20,7 @@ ghost use Rattle.sha256.specs.Sha256.{hash16};
 ghost use Rattle.wire.specs.Order.{good};
 ghost use Rattle.model.specs.Figures.{dataLimit};
 ghost use Rattle.model.specs.Decide.{carriedIn, receivedOf, differs, decide};
-ghost use Rattle.table.specs.View.{view, seen, Rows, Kept, Stands, Gap};
+ghost use Rattle.table.specs.View.{view, seen, Arranged, Kept, Stands, Gap};
 ghost use Rattle.decide.specs.Decided.{decisionOf, Acts, Taken, Fields, Decides};
 
 // Each case with the numbers it needs; where all is taken, `held` tells a node that stands at the place from a new one that would stand there.
@@ -91,10 +91,10 @@ fn decide_held(
     hash: &[u8],
     bytes: &[u8],
 ) -> Decision
-    requires { ⌜ Rows t × Stands t node place ⌝ }
+    requires { ⌜ Arranged t × Stands t node place ⌝ }
     ensures { λ r. ⌜ ((v : List ℕ) → Fields v node seq age (now (hash .entry)) (now (bytes .entry)) → Decides t v r) ⌝ }
 {
-    let e = row_at(t, place);
+    let e = meta_at(t, place);
     if !is_different(e, seq, hash) {
         return Decision::Ignored;
     }
@@ -132,7 +132,7 @@ fn decide_new(
     hash: &[u8],
     bytes: &[u8],
 ) -> Decision
-    requires { ⌜ Rows t × Gap t node place ⌝ }
+    requires { ⌜ Arranged t × Gap t node place ⌝ }
     ensures { λ r. ⌜ ((v : List ℕ) → Fields v node seq age (now (hash .entry)) (now (bytes .entry)) → Decides t v r) ⌝ }
 {
     if 32 <= t.count {

@@ -25,7 +25,7 @@ use Rattle.reply.specs.declared.Context.{Context}
 use Rattle.reply.specs.declared.Work.{Work}
 use Rattle.reply.specs.View.{contextOf, workOf, Ready, Stepped, Markable}
 use Rattle.reply.proofs.Steps.{work-state, work-out, work-omitted, work-dropped}
-use Rattle.exchange.specs.Received.{callOf, Received}
+use Rattle.exchange.specs.Datagram.{callOf, Handled}
 
 -- no sender, nothing written, marks and digest not worked out
 abbrev pub firstWork : State → Reached → Work
@@ -85,7 +85,7 @@ module _ (s : State) (m r d : List ℕ) (clock endpoint : ℕ) (unicast others :
     settled-is : stateOf q m′ ≡ settle clock randoms (workOf v m′ r′ .state)
     settled-is = k .is m′ h ∙ ap (settle clock randoms) (sym (work-state v m′ r′))
 
-    pub received : Received s m r d clock endpoint unicast randoms (record { state = q; length = v .used; omitted = v .omitted; dropped = v .dropped }) m′ r′
+    pub received : Handled s m r d clock endpoint unicast randoms (record { state = q; length = v .used; omitted = v .omitted; dropped = v .dropped }) m′ r′
     received =
         record {
           rep = k .rep m′ (p .sound .rep);

@@ -6,7 +6,7 @@ use Prim.Native.Nat.{ℕ}
 use native.Mathlib.Omega.{arith}
 use Rattle.base.specs.Bytes.{same}
 use Rattle.model.specs.State.{State as ModelState}
-use Rattle.model.specs.Handle.{withState, askNetwork, touch, digestNow, heard, onEqual, onNetwork}
+use Rattle.model.specs.Handle.{withState, askNetwork, touch, digestNow, countEqual, onEqual, onNetwork}
 use Rattle.model.proofs.Cases.{equal-unicast, equal-multicast, network-equal, network-others, network-ask}
 use Rattle.node.specs.declared.State.{State}
 use Rattle.node.specs.View.{stateOf, Moved}
@@ -22,15 +22,15 @@ module _ {c : Context} {w : Work} {m r : List ℕ} {v : Work} (s : Stepped c 0 (
   equal-touched u = stepped-to s (onEqual (contextOf c)) (sym (equal-unicast (contextOf c) (workOf w m r) u))
 
   -- over multicast it counts
-  pub equal-counted : c .unicast ≡ false → (x : State) → Moved (heard (contextOf c) (stateOf (v .state) m)) m x m
+  pub equal-counted : c .unicast ≡ false → (x : State) → Moved (countEqual (contextOf c) (stateOf (v .state) m)) m x m
       → x .own ≡ v .state .own → x .table ≡ v .state .table → Stepped c 0 (onEqual (contextOf c)) w m r (putState x (v .fresh) v) m r
   equal-counted u x k o t =
       stepped-to (stepped-then s counted) (onEqual (contextOf c)) (sym (equal-multicast (contextOf c) (workOf w m r) u))
     where
-      counted : Stepped c 0 (λ y. withState (heard (contextOf c) (y .state)) y) v m r (putState x (v .fresh) v) m r
+      counted : Stepped c 0 (λ y. withState (countEqual (contextOf c) (y .state)) y) v m r (putState x (v .fresh) v) m r
       counted =
-          stepped-kept (s .sound) (λ y. withState (heard (contextOf c) (y .state)) y) (heard (contextOf c) (stateOf (v .state) m)) x k o t
-          (ap (λ (y : ModelState). withState (heard (contextOf c) y) (workOf v m r)) (work-state v m r))
+          stepped-kept (s .sound) (λ y. withState (countEqual (contextOf c) (y .state)) y) (countEqual (contextOf c) (stateOf (v .state) m)) x k o t
+          (ap (λ (y : ModelState). withState (countEqual (contextOf c) y) (workOf v m r)) (work-state v m r))
 
 -- ---- a Network State TLV, marks and digest worked out; b: the digest d is ours
 

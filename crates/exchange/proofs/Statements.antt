@@ -19,9 +19,9 @@ use Rattle.model.specs.Decide.{Decision as ModelDecision, receivedOf, differs, 
 use Rattle.model.specs.Handle.{Work as ModelWork, withState, reply, onOwnState, carryOut, onState}
 use Rattle.model.proofs.Cases.{received-node, received-seq, received-hash, own-reclaimed, own-agrees, state-own, state-other, carry-ignored, carry-ask, carry-number, carry-all, carry-dropped}
 use Rattle.table.specs.declared.Table.{Table}
-use Rattle.table.specs.declared.Entry.{Entry as Row}
-use Rattle.table.specs.View.{view, seen, dataOf, rowAt, Read, Stands, Gap, Stored, Renumbered}
-use Rattle.table.proofs.Rows.{row-hashed}
+use Rattle.table.specs.declared.Entry.{Entry as Meta}
+use Rattle.table.specs.View.{view, seen, dataOf, metaAt, Read, Stands, Gap, Stored, Renumbered}
+use Rattle.table.proofs.Tables.{meta-hashed}
 use Rattle.node.specs.declared.State.{State}
 use Rattle.node.specs.View.{stateOf, Held, Moved}
 use Rattle.node.proofs.Parts.{state-held, putTable as tablePut}
@@ -72,9 +72,9 @@ module _ (c : Context) (w : Work) (m r : List ℕ) (h : Sound (c .clock) w m r) 
 
   -- number and age for the node at place i, its data as they are
   pub number-taken : (i node seq age : ℕ) (t : Table) → Renumbered node seq age (c .clock) (w .state .table) i t → (v : Work) → v ≡ putTable t w
-      → Stepped c 0 (carryOut (contextOf c) (ModelDecision.takeNumber (entryOf node seq (dataOf m (rowAt (w .state .table) i)) age (c .clock)))) w m r v m r
+      → Stepped c 0 (carryOut (contextOf c) (ModelDecision.takeNumber (entryOf node seq (dataOf m (metaAt (w .state .table) i)) age (c .clock)))) w m r v m r
   number-taken i node seq age t o v q =
-      let e : Entry = entryOf node seq (dataOf m (rowAt (w .state .table) i)) age (c .clock) in
+      let e : Entry = entryOf node seq (dataOf m (metaAt (w .state .table) i)) age (c .clock) in
       entry-stepped (carryOut (contextOf c) (ModelDecision.takeNumber e)) e (carry-number (contextOf c) (workOf w m r) e) t m
       (renumbered-moved (w .state) m (h .rep) t node seq age (c .clock) i o) v q
 
@@ -94,12 +94,12 @@ module _ (c : Context) (w : Work) (m r : List ℕ) (h : Sound (c .clock) w m r) 
 pub ready-held : {c : Context} {w : Work} {m r : List ℕ} → Ready c w m r → Held (w .state) m
 ready-held {w = w} {m = m} h = state-held (w .state) m (h .midway .table .held)
 
-module _ (c : Context) (w : Work) (m r v : List ℕ) (h : Sound (c .clock) w m r) (i : ℕ) (s : Stands (w .state .table) (w .state .own) i) (e : Row)
+module _ (c : Context) (w : Work) (m r v : List ℕ) (h : Sound (c .clock) w m r) (i : ℕ) (s : Stands (w .state .table) (w .state .own) i) (e : Meta)
     (o : Read (w .state .table) i e) (seq : ℕ) (q : seq ≡ u32At v 4) (d : Bool)
     (g : (m′ v′ : List ℕ) → e .hash ≡ hash16 (seen m′ e .says .nodeData) → seq ≡ receivedOf v′ .seq → take (28 - 12) (drop 12 v) ≡ receivedOf v′ .hash → d ≡ differs (seen m′ e) (receivedOf v′)) where
-  -- the row read is our own entry, its digest that of our data
+  -- the entry read is our own, its digest that of our data
   own-hashed : e .hash ≡ hash16 (dataOf m e)
-  own-hashed = subst (λ (x : Row). x .hash ≡ hash16 (dataOf m x)) (sym (o .same)) (row-hashed (w .state .table) m i (h .rep .table) (s .at))
+  own-hashed = subst (λ (x : Meta). x .hash ≡ hash16 (dataOf m x)) (sym (o .same)) (meta-hashed (w .state .table) m i (h .rep .table) (s .at))
 
   own-seen : seen m e ≡ ownEntry (workOf w m r .state)
   own-seen = ap (seen m) (o .same) ∙ sym (own-entry (w .state) m i (h .rep) s) ∙ sym (ap ownEntry (work-state w m r))

@@ -27,7 +27,7 @@ ghost use Rattle.table.specs.View.{view};
 ghost use Rattle.node.specs.View.{stateOf, Rep};
 ghost use Rattle.reach.specs.Marks.{tlvOf};
 ghost use Rattle.reply.specs.View.{contextOf, Ready, Stepped, Markable};
-ghost use Rattle.exchange.specs.Received.{Received};
+ghost use Rattle.exchange.specs.Datagram.{Handled};
 
 // The TLV is a Node State, long enough, about another node.
 fn is_other(s: &[u8], at: usize, h: Header, own: u32) -> bool
@@ -112,7 +112,7 @@ pub fn handle(
     randoms: [u32; 4],
 ) -> Outcome
     requires { ⌜ Rep s (now mem) × (Midway clock (stateOf s (now mem)) × ((clock ≤ lastReading) × ((1 ≤ endpoint) × ((endpoint ≤ 4) × ((mostBytes ≤ length (now room)) × ((isRow (now datagram) ≡ true) × (length (now datagram) ≤ mostBytes))))))) ⌝ }
-    ensures { λ r. ⌜ Received s (now (mem .entry)) (now (room .entry)) (now (datagram .entry)) clock endpoint unicast randoms r (now (mem .exit)) (now (room .exit)) ⌝ }
+    ensures { λ r. ⌜ Handled s (now (mem .entry)) (now (room .entry)) (now (datagram .entry)) clock endpoint unicast randoms r (now (mem .exit)) (now (room .exit)) ⌝ }
 {
     let c = Context {
         clock,

@@ -94,6 +94,6 @@ pub fn touch(w: Work, mem: &[u8], room: &[u8], c: Context) -> Work
         return w;
     }
     let mut next = w;
-    next.state = node::peering::touch(w.state, f.node, f.endpoint, c.endpoint, c.clock);
+    next.state = node::peering::note_contact(w.state, f.node, f.endpoint, c.endpoint, c.clock);
     next
 }

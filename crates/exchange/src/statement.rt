@@ -11,16 +11,16 @@ use reply::Work;
 use reply::put::ask_node;
 use table::Table;
 use table::insert;
+use table::meta_at;
 use table::renumber;
 use table::replace;
-use table::row_at;
 ghost use mathlib.Core.Path.{_≡_};
 ghost use Prim.Native.Nat.{_≤_, _<_};
 ghost use lib.ListN.{length, take, drop};
 ghost use Rattle.model.specs.Decide.{Decision as ModelDecision, receivedOf};
 ghost use Rattle.model.specs.Figures.{mostNodes};
 ghost use Rattle.model.specs.Table.{entryOf};
-ghost use Rattle.table.specs.View.{dataOf, rowAt, Stands, Gap};
+ghost use Rattle.table.specs.View.{dataOf, metaAt, Stands, Gap};
 ghost use Rattle.model.specs.Handle.{onOwnState, carryOut, onState};
 ghost use Rattle.reply.specs.View.{contextOf, putTable, Ready, Stepped};
 ghost use Rattle.decide.specs.Decided.{decisionOf, Acts, Fine, Taken, Placed, HasRoom};
@@ -57,7 +57,7 @@ fn on_own_state(w: Work, mem: &[u8], room: &[u8], c: Context, value: &[u8]) -> W
 {
     let s = w.state;
     let i = own_place(s, mem);
-    let e = row_at(s.table, i);
+    let e = meta_at(s.table, i);
     let seq = read_u32(value, 4);
     if !is_different(e, seq, &value[12..28]) {
         return w;
@@ -92,7 +92,7 @@ fn take_number(
     age: u32,
 ) -> Work
     requires { ⌜ Ready c w (now mem) (now room) × Stands (w .state .table) node place ⌝ }
-    ensures { λ v. ⌜ Stepped c 0 (carryOut (contextOf c) (ModelDecision.takeNumber (entryOf node seq (dataOf (now (mem .entry)) (rowAt (w .state .table) place)) age (c .clock)))) w (now (mem .entry)) (now (room .entry)) v (now (mem .entry)) (now (room .entry)) ⌝ }
+    ensures { λ v. ⌜ Stepped c 0 (carryOut (contextOf c) (ModelDecision.takeNumber (entryOf node seq (dataOf (now (mem .entry)) (metaAt (w .state .table) place)) age (c .clock)))) w (now (mem .entry)) (now (room .entry)) v (now (mem .entry)) (now (room .entry)) ⌝ }
 {
     let t = renumber(w.state.table, place, node, seq, age as u64, c.clock);
     with_table(w, t)

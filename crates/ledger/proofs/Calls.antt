@@ -16,7 +16,7 @@ use Rattle.model.specs.Theorems.{Exact}
 use Rattle.model.proofs.Refusals.{refusals-exact, refusals-change-nothing}
 use Rattle.node.specs.View.{stateOf}
 use Rattle.node.specs.declared.State.{State}
-use Rattle.exchange.specs.Received.{callOf}
+use Rattle.exchange.specs.Datagram.{callOf}
 use Rattle.ledger.specs.declared.answers.Saved.{Saved}
 use Rattle.ledger.specs.Promises.{AsLeft, Saves}
 use Rattle.ledger.specs.Calls.{Made, Promised, stateThen, memoryThen, numberOf, rowsOf, RoomSame, Along, lastState, lastMemory, OneAfterTheOther}

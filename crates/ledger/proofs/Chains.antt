@@ -38,10 +38,10 @@ use Rattle.model.proofs.Refusals.{refusals-exact}
 use Rattle.model.proofs.Turns.{each-at-its-turn}
 use Rattle.model.proofs.Traffic.{all-sorted}
 use Rattle.table.specs.View.{view}
-use Rattle.table.proofs.Rows.{view-ascending}
+use Rattle.table.proofs.Tables.{view-ascending}
 use Rattle.node.specs.View.{stateOf}
 use Rattle.node.specs.declared.State.{State}
-use Rattle.exchange.specs.Received.{callOf}
+use Rattle.exchange.specs.Datagram.{callOf}
 use Rattle.ledger.specs.declared.answers.Done.{Done}
 use Rattle.ledger.specs.declared.answers.Sent.{Sent}
 use Rattle.ledger.specs.declared.answers.Answer.{Answer}
@@ -74,13 +74,13 @@ reachable own clock t a =
 abbrev From : Context → List (List ℕ) → Work → List ℕ → Type 0
 From c ts w u =
     (before : List (List ℕ)) × (t : List ℕ) × (later : List (List ℕ)) × (ts ≡ before ++ (t ∷ later)) × (e : Entry) ×
-    Led (allTlvs c before w .state .own) (c .now) (allTlvs c before w .state .table) e × ((u ≡ shortState (c .now) e) ⊎ (u ≡ wholeState (c .now) e))
+    Led (allTlvs c before w .state .own) (c .clock) (allTlvs c before w .state .table) e × ((u ≡ shortState (c .clock) e) ⊎ (u ≡ wholeState (c .clock) e))
 
 -- u has the digest at such a moment
 abbrev Telling : Context → List (List ℕ) → Work → List ℕ → Type 0
 Telling c ts w u =
     (before : List (List ℕ)) × (t : List ℕ) × (later : List (List ℕ)) × (ts ≡ before ++ (t ∷ later))
-    × (u ≡ networkTlv (networkDigest (allTlvs c before w .state .own) (c .now) (allTlvs c before w .state .table)))
+    × (u ≡ networkTlv (networkDigest (allTlvs c before w .state .own) (c .clock) (allTlvs c before w .state .table)))
 
 record Written (c : Context) (ts : List (List ℕ)) (w v : Work) : Type 0 where
   us : List (List ℕ)
@@ -101,16 +101,16 @@ from-next c t ts w u f =
     (t ∷ f .0, f .1, f .2, ap (λ (l : List (List ℕ)). t ∷ l) (f .3), f .4, rw (all-tlvs-next c w t (f .0)) (f .5), f .6)
 
 -- at once
-from-here : (c : Context) (t : List ℕ) (ts : List (List ℕ)) (w : Work) (u : List ℕ) (e : Entry) → In e (reached (w .state .own) (c .now) (w .state .table))
-    → (u ≡ shortState (c .now) e) ⊎ (u ≡ wholeState (c .now) e) → From c (t ∷ ts) w u
+from-here : (c : Context) (t : List ℕ) (ts : List (List ℕ)) (w : Work) (u : List ℕ) (e : Entry) → In e (reached (w .state .own) (c .clock) (w .state .table))
+    → (u ≡ shortState (c .clock) e) ⊎ (u ≡ wholeState (c .clock) e) → From c (t ∷ ts) w u
 from-here c t ts w u e i s =
-    ([], t, ts, refl, e, rw (all-tlvs-none c w) (led (w .state .own) (c .now) (w .state .table) e i), s)
+    ([], t, ts, refl, e, rw (all-tlvs-none c w) (led (w .state .own) (c .clock) (w .state .table) e i), s)
 
 tells-next : (c : Context) (t : List ℕ) (ts : List (List ℕ)) (w : Work) (u : List ℕ) → Telling c ts (oneTlv c t w) u → Telling c (t ∷ ts) w u
 tells-next c t ts w u f =
     (t ∷ f .0, f .1, f .2, ap (λ (l : List (List ℕ)). t ∷ l) (f .3), rw (all-tlvs-next c w t (f .0)) (f .4))
 
-tells-here : (c : Context) (t : List ℕ) (ts : List (List ℕ)) (w : Work) (u : List ℕ) → u ≡ networkTlv (networkDigest (w .state .own) (c .now) (w .state .table)) → Telling c (t ∷ ts) w u
+tells-here : (c : Context) (t : List ℕ) (ts : List (List ℕ)) (w : Work) (u : List ℕ) → u ≡ networkTlv (networkDigest (w .state .own) (c .clock) (w .state .table)) → Telling c (t ∷ ts) w u
 tells-here c t ts w u e = ([], t, ts, refl, rw (all-tlvs-none c w) e)
 
 all-written : (c : Context) (ts : List (List ℕ)) (w : Work) → Written c ts w (allTlvs c ts w)
@@ -141,13 +141,13 @@ all-written c (t ∷ ts) w =
 
 table-ascends : (s : State) (m : List ℕ) → AsLeft s m → Ascending idOf (stateOf s m .table)
 unfolding stateOf
-table-ascends s m l = view-ascending (s .table) (l .rows) m
+table-ascends s m l = view-ascending (s .table) (l .arranged) m
 
 stored : (s : State) (m : List ℕ) → AsLeft s m → tableBytes ≤ length m → (es : List Entry) × Reachable (s .own) (s .last) (view (s .table) m) es × (s .digest ≡ digestOver es)
 unfolding stateOf
 stored s m l room = (
   reached (s .own) (s .last) (view (s .table) m),
-  reachable (s .own) (s .last) (view (s .table) m) (view-ascending (s .table) (l .rows) m),
+  reachable (s .own) (s .last) (view (s .table) m) (view-ascending (s .table) (l .arranged) m),
   l .valid room .digest ∙ states-read-back .digest (s .own) (s .last) (view (s .table) m),
 )
 
@@ -218,13 +218,13 @@ module _ (datagram : List ℕ) (clock endpoint : ℕ) (unicast : Bool) (randoms 
 -- ---- ticks
 
 -- what an accepted tick sends
-announces : (now i : ℕ) (rs : List ℕ) (s : ModelState) → let r : ModelSent = ticked now i rs s in
-    (r .bytes ≡ []) ⊎ (r .bytes ≡ endpointTlv (r .state .own) i ++ networkTlv (networkDigest (r .state .own) now (r .state .table)))
+announces : (clock i : ℕ) (rs : List ℕ) (s : ModelState) → let r : ModelSent = ticked clock i rs s in
+    (r .bytes ≡ []) ⊎ (r .bytes ≡ endpointTlv (r .state .own) i ++ networkTlv (networkDigest (r .state .own) clock (r .state .table)))
 unfolding ticked settle
-announces now i rs s =
-    go (event now (getD rs (pred i) 0) (endpointAt i (settle now rs (dropSilent now i s)) .trickle) .sends)
+announces clock i rs s =
+    go (event clock (getD rs (pred i) 0) (endpointAt i (settle clock rs (dropSilent clock i s)) .trickle) .sends)
   where
-    go : (b : Bool) → (cond b (announcement i (settle now rs (dropSilent now i s))) [] ≡ []) ⊎ (cond b (announcement i (settle now rs (dropSilent now i s))) [] ≡ announcement i (settle now rs (dropSilent now i s)))
+    go : (b : Bool) → (cond b (announcement i (settle clock rs (dropSilent clock i s))) [] ≡ []) ⊎ (cond b (announcement i (settle clock rs (dropSilent clock i s))) [] ≡ announcement i (settle clock rs (dropSilent clock i s)))
     go true = inr refl
     go false = inl refl
 
@@ -255,7 +255,7 @@ module _ (clock endpoint : ℕ) (randoms : List ℕ) (s : State) (m q : List ℕ
       × ((take (r .length) q′ ≡ []) ⊎ (take (r .length) q′ ≡ endpointTlv (r .state .own) endpoint ++ networkTlv (digestOver es)))
   tick-counted = (
     reached (r .state .own) clock (view (r .state .table) m′),
-    reachable (r .state .own) clock (view (r .state .table) m′) (view-ascending (r .state .table) (h .left .rows) m′),
+    reachable (r .state .own) clock (view (r .state .table) m′) (view-ascending (r .state .table) (h .left .arranged) m′),
     ⊎-elim inl (λ e. inr (e ∙ ap (λ (d : List ℕ). endpointTlv (r .state .own) endpoint ++ networkTlv d) (states-read-back .digest (r .state .own) clock (view (r .state .table) m′)))) tick-tells,
   )
 
@@ -279,16 +279,16 @@ only-reachable =
       marked = λ clock s m r l h z.
           let e = marks-counted clock s m r h z in (
             counted clock s m,
-            reachable (s .own) clock (view (s .table) m) (view-ascending (s .table) (l .rows) m),
+            reachable (s .own) clock (view (s .table) m) (view-ascending (s .table) (l .arranged) m),
             ap (λ (x : ModelMarks). x .nodes) e,
             ap (λ (x : ModelMarks). x .digest) e ∙ states-read-back .digest (s .own) clock (view (s .table) m),
           );
       summed = λ clock s m r l h z.
           let e = sum-counted clock s m r h z in
-          (counted clock s m, reachable (s .own) clock (view (s .table) m) (view-ascending (s .table) (l .rows) m), ap (λ (x : ModelSummed). x .value) e, ap (λ (x : ModelSummed). x .unread) e);
+          (counted clock s m, reachable (s .own) clock (view (s .table) m) (view-ascending (s .table) (l .arranged) m), ap (λ (x : ModelSummed). x .value) e, ap (λ (x : ModelSummed). x .unread) e);
       totalled = λ clock household s m r l h z.
           let e = total-counted clock s m household r h z in
-          (counted clock s m, reachable (s .own) clock (view (s .table) m) (view-ascending (s .table) (l .rows) m), ap (λ (x : ModelSummed). x .value) e, ap (λ (x : ModelSummed). x .unread) e);
+          (counted clock s m, reachable (s .own) clock (view (s .table) m) (view-ascending (s .table) (l .arranged) m), ap (λ (x : ModelSummed). x .value) e, ap (λ (x : ModelSummed). x .unread) e);
       sent = sent-counted;
       told = λ datagram clock endpoint unicast randoms s m q r m′ q′ l h z. told-counted datagram clock endpoint unicast randoms s m q r m′ q′ h z l;
       ticked = tick-counted;

@@ -25,7 +25,7 @@ use Rattle.model.proofs.Totals.{totals-add-up}
 use Rattle.model.proofs.Sent.{sent-form}
 use Rattle.node.specs.View.{stateOf}
 use Rattle.node.specs.declared.State.{State}
-use Rattle.exchange.specs.Received.{callOf}
+use Rattle.exchange.specs.Datagram.{callOf}
 use Rattle.ledger.specs.declared.answers.Sent.{Sent}
 use Rattle.ledger.specs.declared.answers.Answer.{Answer}
 use Rattle.ledger.specs.declared.answers.Summed.{Summed}

@@ -24,7 +24,7 @@ use Rattle.model.proofs.Delivery.{order-loses-nothing}
 use Rattle.model.proofs.KeptReceive.{receive-own}
 use Rattle.model.proofs.Refusals.{refusals-change-nothing, refusals-exact}
 use Rattle.table.specs.View.{view}
-use Rattle.table.proofs.Rows.{view-ascending}
+use Rattle.table.proofs.Tables.{view-ascending}
 use Rattle.node.specs.View.{stateOf}
 use Rattle.node.specs.declared.State.{State}
 use Rattle.model.specs.Show.{Marks as ModelMarks}
@@ -103,7 +103,7 @@ module _ (s : State) (m : List ℕ) where
       (λ y. subst (Holds (λ (x : Statement). In x (known s m xs))) (after xs d) (order-loses-nothing .kept (stateOf s m) (calls xs) (premises xs d (leb-true tableBytes (length m) y))))
       (λ n. let short : length m < tableBytes = leb-false tableBytes (length m) n in
       let t : view (s .table) m ≡ tableAfter s m xs = ap (λ (v : ModelState). v .table) (sym (short-run (length m) short (stateOf s m) xs)) ∙ after xs d in
-      rw (short-heard (length m) short (stateOf s m) xs, append-nil (statements (view (s .table) m)), sym t) (holds-own (view (s .table) m) (view-ascending (s .table) (d .left .rows) m)))
+      rw (short-heard (length m) short (stateOf s m) xs, append-nil (statements (view (s .table) m)), sym t) (holds-own (view (s .table) m) (view-ascending (s .table) (d .left .arranged) m)))
 
   module _ (xs ys : List Delivery) (d : Delivered s m xs) (e : Delivered s m ys) (same : SameHeard (stateOf s m) (calls xs) (calls ys)) where
     short-alike : length m < tableBytes → tableAfter s m xs ≡ tableAfter s m ys
@@ -117,20 +117,20 @@ module _ (s : State) (m : List ℕ) where
         by-test (leb tableBytes (length m)) (λ y. rw (after xs d, after ys e) at (model-alike (leb-true tableBytes (length m) y) .table))
         (λ n. ap statements (short-alike (leb-false tableBytes (length m) n)))
 
-    alike : (now : ℕ) → Under now (tableAfter s m xs) → Under now (tableAfter s m ys)
-        → ((n : ℕ) → inReach (s .own) now (tableAfter s m xs) n ≡ inReach (s .own) now (tableAfter s m ys) n)
-        × (networkDigest (s .own) now (tableAfter s m xs) ≡ networkDigest (s .own) now (tableAfter s m ys))
+    alike : (clock : ℕ) → Under clock (tableAfter s m xs) → Under clock (tableAfter s m ys)
+        → ((n : ℕ) → inReach (s .own) clock (tableAfter s m xs) n ≡ inReach (s .own) clock (tableAfter s m ys) n)
+        × (networkDigest (s .own) clock (tableAfter s m xs) ≡ networkDigest (s .own) clock (tableAfter s m ys))
     unfolding stateOf
-    alike now u v =
+    alike clock u v =
         by-test (leb tableBytes (length m))
         (λ y. let a : Alike (stateOf s m) (calls xs) (calls ys) = model-alike (leb-true tableBytes (length m) y) in
-        let p : Under now (run (stateOf s m) (calls xs) .table) = subst (Under now) (sym (after xs d)) u in
-        let q : Under now (run (stateOf s m) (calls ys) .table) = subst (Under now) (sym (after ys e)) v in (
-          λ n. rw (run-own (stateOf s m) (calls xs), run-own (stateOf s m) (calls ys), after xs d, after ys e) at (a .marks now p q n),
-          rw (run-own (stateOf s m) (calls xs), run-own (stateOf s m) (calls ys), after xs d, after ys e) at (a .digest now p q),
+        let p : Under clock (run (stateOf s m) (calls xs) .table) = subst (Under clock) (sym (after xs d)) u in
+        let q : Under clock (run (stateOf s m) (calls ys) .table) = subst (Under clock) (sym (after ys e)) v in (
+          λ n. rw (run-own (stateOf s m) (calls xs), run-own (stateOf s m) (calls ys), after xs d, after ys e) at (a .marks clock p q n),
+          rw (run-own (stateOf s m) (calls xs), run-own (stateOf s m) (calls ys), after xs d, after ys e) at (a .digest clock p q),
         ))
         (λ n. let t : tableAfter s m xs ≡ tableAfter s m ys = short-alike (leb-false tableBytes (length m) n) in
-        (λ k. ap (λ (l : List Entry). inReach (s .own) now l k) t, ap (λ (l : List Entry). networkDigest (s .own) now l) t))
+        (λ k. ap (λ (l : List Entry). inReach (s .own) clock l k) t, ap (λ (l : List Entry). networkDigest (s .own) clock l) t))
 
 -- ---- as `marks` answers
 
@@ -155,9 +155,9 @@ table-is : (s : State) (m : List ℕ) (xs : List Delivery) → view (stateAfter 
 table-is s m [] = refl
 table-is s m (x ∷ xs) = table-is (x .answer .state) (x .memory) xs
 
-ids-reached : (own now : ℕ) (t : List Entry) → map idOf (reached own now t) ≡ keep (inReach own now t) (map idOf t)
+ids-reached : (own clock : ℕ) (t : List Entry) → map idOf (reached own clock t) ≡ keep (inReach own clock t) (map idOf t)
 unfolding reached
-ids-reached own now t = map-keep idOf (inReach own now t) t
+ids-reached own clock t = map-keep idOf (inReach own clock t) t
 
 ids-says : (t : List Entry) → map idOf t ≡ map (λ (x : Statement). x .node) (statements t)
 ids-says [] = refl

@@ -14,7 +14,7 @@ use Rattle.model.specs.Begin.{started, begun, blank}
 use Rattle.model.specs.Invariant.{Valid}
 use Rattle.model.proofs.Kept.{invariant-kept}
 use Rattle.model.proofs.ReadBack.{states-read-back}
-use Rattle.table.specs.declared.Entry.{Entry as Row}
+use Rattle.table.specs.declared.Entry.{Entry as Meta}
 use Rattle.table.specs.View.{view}
 use Rattle.node.specs.declared.State.{State}
 use Rattle.node.specs.declared.Endpoint.{Endpoint}
@@ -41,7 +41,7 @@ alone-digest : networkDigest 0 0 (entryOf 0 0 [] 0 0 ∷ []) ≡ aloneDigest
 alone-digest = states-read-back .alone 0 0 (entryOf 0 0 [] 0 0) refl ∙ ap (λ (h : List ℕ). hash16 (big32 0 ++ h)) empty-hash ∙ zero-hash
 
 -- node 0 with no data, whatever stands in the places that do not count
-abbrev first : List Row → List Peer → State
+abbrev first : List Meta → List Peer → State
 first l p =
     let e : Endpoint = record { trickle = record { start = 0; point = 100; interval = 200; count = 0; spent = false }; next = 0 } in
     record {
@@ -53,7 +53,7 @@ first l p =
       digest = aloneDigest;
     }
 
-module _ (l : List Row) (p : List Peer) (m : List ℕ) where
+module _ (l : List Meta) (p : List Peer) (m : List ℕ) where
   is-blank : stateOf (first l p) m ≡ blank
   unfolding stateOf view peersOf blank begun started fresh
   is-blank = rw alone-digest refl
@@ -61,7 +61,7 @@ module _ (l : List Row) (p : List Peer) (m : List ℕ) where
   pub blank-left : length l ≡ 31 → length p ≡ 16 → AsLeft (first l p) m × (stateOf (first l p) m ≡ blank)
   blank-left n k = (
     record {
-      rows = record { most = omega arith; wide = omega arith; ascending = (tt, tt); fit = ((omega arith, omega arith), tt); apart = (tt, tt) };
+      arranged = record { most = omega arith; wide = omega arith; ascending = (tt, tt); fit = ((omega arith, omega arith), tt); apart = (tt, tt) };
       peers = record { few = omega arith; list = k };
       four = refl;
       digest = refl;

@@ -12,7 +12,7 @@ use Rattle.base.proofs.Tests.{by-test}
 use Rattle.base.proofs.Sorted.{keep-ascending}
 use Rattle.wire.specs.Payment.{Payment}
 use Rattle.model.specs.Figures.{tableBytes, mostBytes}
-use Rattle.model.specs.Table.{Entry, Statement, idOf, statements}
+use Rattle.model.specs.Table.{Statement, idOf, statements}
 use Rattle.model.specs.State.{State as ModelState}
 use Rattle.model.specs.Begin.{Done as ModelDone}
 use Rattle.model.specs.Tick.{Sent as ModelSent, tick}
@@ -23,10 +23,10 @@ use Rattle.model.specs.Traffic.{Turn, turned, heardBy, turns, heardOver, others
 use Rattle.model.proofs.Refusals.{refusals-exact, refusals-change-nothing}
 use Rattle.model.proofs.Traffic.{traffic-loses-nothing}
 use Rattle.table.specs.View.{view}
-use Rattle.table.proofs.Rows.{view-ascending}
+use Rattle.table.proofs.Tables.{view-ascending}
 use Rattle.node.specs.View.{stateOf}
 use Rattle.node.specs.declared.State.{State}
-use Rattle.exchange.specs.Received.{callOf}
+use Rattle.exchange.specs.Datagram.{callOf}
 use Rattle.ledger.specs.Calls.{Made, Promised, stateThen, memoryThen, Along, lastState, lastMemory, Flowing, turnOf, turnsOf, knownOf, Flowed, othersThen, FlowLosesNothing}
 use Rattle.ledger.proofs.Left.{not-small, not-small-room}
 use Rattle.ledger.proofs.Calls.{size}
@@ -69,15 +69,15 @@ module _ (n : ℕ) (short : n < tableBytes) (v : ModelState) where
   abbrev Idle : List Turn → Type 0
   Idle ts = (turns v ts ≡ v) × (heardOver v ts ≡ [])
 
-  tick-idle : (now i : ℕ) (rs : List ℕ) (room : ℕ) → tick now i rs n room v .state ≡ v
-  tick-idle now i rs room =
+  tick-idle : (clock i : ℕ) (rs : List ℕ) (room : ℕ) → tick clock i rs n room v .state ≡ v
+  tick-idle clock i rs room =
       ap (λ (a : ModelSent). a .state)
-      (refusals-change-nothing .ticks now i rs n room v
-      (λ z. omega (arith, short, not-small-room n room mostBytes (refusals-exact .ticks now i rs n room v .none .0 z .1 .1 .1 .0) .0)))
+      (refusals-change-nothing .ticks clock i rs n room v
+      (λ z. omega (arith, short, not-small-room n room mostBytes (refusals-exact .ticks clock i rs n room v .none .0 z .1 .1 .1 .0) .0)))
 
-  pay-idle : (now : ℕ) (p : Payment) (rs : List ℕ) → pay now p rs n v .state ≡ v
-  pay-idle now p rs =
-      refusals-change-nothing .pays now p rs n v (λ z. omega (arith, short, not-small n (refusals-exact .pays now p rs n v .none .0 z .1 .1 .0)))
+  pay-idle : (clock : ℕ) (p : Payment) (rs : List ℕ) → pay clock p rs n v .state ≡ v
+  pay-idle clock p rs =
+      refusals-change-nothing .pays clock p rs n v (λ z. omega (arith, short, not-small n (refusals-exact .pays clock p rs n v .none .0 z .1 .1 .0)))
 
   turn-idle : (x : Made) → Idle (turnOf n x)
   unfolding turns heardOver heardBy
@@ -135,7 +135,7 @@ module _ (s : State) (m : List ℕ) where
       (traffic-loses-nothing .kept (stateOf s m) (turnsOf (length m) xs) (traffic xs d (leb-true tableBytes (length m) y))))
       (λ n. let short : length m < tableBytes = leb-false tableBytes (length m) n in
       rw (all-idle (length m) short (stateOf s m) xs .1, append-nil (statements (othersOf (s .own) (view (s .table) m))), sym (idle-after xs d short))
-      (holds-own (othersOf (s .own) (view (s .table) m)) (keep-ascending idOf _ (view (s .table) m) (view-ascending (s .table) (d .left .rows) m))))
+      (holds-own (othersOf (s .own) (view (s .table) m)) (keep-ascending idOf _ (view (s .table) m) (view-ascending (s .table) (d .left .arranged) m))))
 
   alike : (xs ys : List Made) → Flowed s m xs → Flowed s m ys
       → ((x : Statement) → In x (heardOver (stateOf s m) (turnsOf (length m) xs)) ↔ In x (heardOver (stateOf s m) (turnsOf (length m) ys)))

@@ -20,10 +20,10 @@ use Rattle.ledger.specs.Promises.{AsLeft}
 
 module _ {s : State} {m : List ℕ} (l : AsLeft s m) (room : tableBytes ≤ length m) where
   pub left-rep : Rep s m
-  left-rep = record { table = record { rows = l .rows; room = room; hashed = l .hashed room }; peers = l .peers; four = l .four; digest = l .digest }
+  left-rep = record { table = record { arranged = l .arranged; room = room; hashed = l .hashed room }; peers = l .peers; four = l .four; digest = l .digest }
 
-  pub left-midway : (now : ℕ) → stateOf s m .last ≤ now → Midway now (stateOf s m)
-  left-midway now later = valid-midway now (stateOf s m) (l .valid room) later
+  pub left-midway : (clock : ℕ) → stateOf s m .last ≤ clock → Midway clock (stateOf s m)
+  left-midway clock later = valid-midway clock (stateOf s m) (l .valid room) later
 
 pub state-last : (s : State) (m : List ℕ) → stateOf s m .last ≡ s .last
 unfolding stateOf
@@ -33,7 +33,7 @@ state-last s m = refl
 pub rep-left : {s : State} {m : List ℕ} → Rep s m → Valid (stateOf s m) → AsLeft s m
 rep-left k v =
     record {
-      rows = k .table .rows;
+      arranged = k .table .arranged;
       peers = k .peers;
       four = k .four;
       digest = k .digest;

@@ -15,9 +15,9 @@ use Rattle.model.specs.Table.{idOf}
 use Rattle.model.specs.Reach.{reached}
 use Rattle.model.specs.Digest.{networkDigest}
 use Rattle.model.specs.Show.{Marks as ModelMarks, refusalMarks, marks}
-use Rattle.table.specs.declared.Entry.{Entry as Row}
+use Rattle.table.specs.declared.Entry.{Entry as Meta}
 use Rattle.table.specs.declared.Table.{Table}
-use Rattle.table.specs.View.{blank, rowId, live, seen, view}
+use Rattle.table.specs.View.{blank, metaId, live, seen, view}
 use Rattle.reach.specs.declared.Reached.{Reached}
 use Rattle.reach.specs.Marks.{Reaching}
 use Rattle.reach.proofs.Reaching.{reached-by}
@@ -28,34 +28,34 @@ use Rattle.ledger.specs.Inner.{Listed}
 use Rattle.ledger.specs.Promises.{Lists}
 use Rattle.ledger.proofs.Answering.{as-refused, as-accepted}
 
--- ---- the marked rows below place i stand in the first n places of the list
+-- ---- the marked entries below place i stand in the first n places of the list
 
-pub record ListedBelow (bs : List Bool) (l : List Row) (list : List ℕ) (n i : ℕ) : Type 0 where
+pub record ListedBelow (bs : List Bool) (l : List Meta) (list : List ℕ) (n i : ℕ) : Type 0 where
   pub size : length list ≡ mostNodes
   pub most : n ≤ i
-  pub is : take n list ≡ map rowId (keepBy bs (take i l))
+  pub is : take n list ≡ map metaId (keepBy bs (take i l))
   pub rest : drop n list ≡ replicate (mostNodes - n) 0
 
-pub list-start : (bs : List Bool) (l : List Row) → ListedBelow bs l (replicate mostNodes 0) 0 0
-list-start bs l = record { size = length-replicate {A = ℕ} mostNodes 0; most = omega arith; is = rw (keep-by-nil {A = Row} bs); rest = refl }
+pub list-start : (bs : List Bool) (l : List Meta) → ListedBelow bs l (replicate mostNodes 0) 0 0
+list-start bs l = record { size = length-replicate {A = ℕ} mostNodes 0; most = omega arith; is = rw (keep-by-nil {A = Meta} bs); rest = refl }
 
 fewer : (k j : ℕ) → k ≡ suc j → drop {A = ℕ} 1 (replicate k 0) ≡ replicate j 0
 fewer k j e = rw e
 
-module _ (bs : List Bool) (l : List Row) (list : List ℕ) (n i : ℕ) (g : ListedBelow bs l list n i) where
+module _ (bs : List Bool) (l : List Meta) (list : List ℕ) (n i : ℕ) (g : ListedBelow bs l list n i) where
   module _ (p : i < length l) where
-    -- a row that is not marked
+    -- an entry that is not marked
     pub list-stay : getD bs i false ≡ false → ListedBelow bs l list n (i + 1)
-    list-stay b = record { size = g .size; most = omega (arith, g .most); is = g .is ∙ ap (map rowId) (sym (keep-by-out blank bs l i p b)); rest = g .rest }
+    list-stay b = record { size = g .size; most = omega (arith, g .most); is = g .is ∙ ap (map metaId) (sym (keep-by-out blank bs l i p b)); rest = g .rest }
 
     -- one more
-    pub list-on : (r : Row) (x : List ℕ) → getD bs i false ≡ true → i < mostNodes → r ≡ getD l i blank → x ≡ set list n (r .id) → ListedBelow bs l x (n + 1) (i + 1)
+    pub list-on : (r : Meta) (x : List ℕ) → getD bs i false ≡ true → i < mostNodes → r ≡ getD l i blank → x ≡ set list n (r .id) → ListedBelow bs l x (n + 1) (i + 1)
     list-on r x b s q e =
         let w : n < length list = omega (arith, g .size, g .most) in
         record {
           size = ap length e ∙ length-set list n (r .id) ∙ g .size;
           most = omega (arith, g .most);
-          is = rw (e, add-one n, take-suc-set list n (r .id) w, g .is, keep-by-in blank bs l i p b, ← q) (sym (map-append rowId (keepBy bs (take i l)) (r ∷ [])));
+          is = rw (e, add-one n, take-suc-set list n (r .id) w, g .is, keep-by-in blank bs l i p b, ← q) (sym (map-append metaId (keepBy bs (take i l)) (r ∷ [])));
           rest =
               ap (drop (n + 1)) e ∙ drop-set-lt (n + 1) list n (r .id) (omega arith) ∙ sym (drop-drop 1 n list) ∙ ap (drop 1) (g .rest)
               ∙ fewer (mostNodes - n) (mostNodes - (n + 1)) (omega (arith, g .most));
@@ -72,33 +72,33 @@ answer k l d = record { number = k; nodes = l; digest = d }
 same-answer : {k : ℕ} {l x d y : List ℕ} → l ≡ x → d ≡ y → answer k l d ≡ answer k x y
 same-answer a b = rw (a, b)
 
--- the rows' identifiers are the nodes'
-ids-seen : (bs : List Bool) (t : Table) (m : List ℕ) → map rowId (keepBy bs (live t)) ≡ map idOf (keepBy bs (view t m))
+-- the entries' identifiers are the nodes'
+ids-seen : (bs : List Bool) (t : Table) (m : List ℕ) → map metaId (keepBy bs (live t)) ≡ map idOf (keepBy bs (view t m))
 unfolding view
 ids-seen bs t m = rw (keep-by-map (seen m) bs (live t)) (sym (map-map idOf (seen m) (keepBy bs (live t))))
 
-module _ (now table : ℕ) (s : State) (m : List ℕ) (k : ℕ) (e : k ≡ refusalMarks now table (stateOf s m)) where
+module _ (clock table : ℕ) (s : State) (m : List ℕ) (k : ℕ) (e : k ≡ refusalMarks clock table (stateOf s m)) where
   abbrev marking : ModelMarks
   marking =
-      answer 0 (map idOf (reached (stateOf s m .own) now (stateOf s m .table))) (networkDigest (stateOf s m .own) now (stateOf s m .table))
+      answer 0 (map idOf (reached (stateOf s m .own) clock (stateOf s m .table))) (networkDigest (stateOf s m .own) clock (stateOf s m .table))
 
   abbrev none : ℕ → ModelMarks
   none n = answer n [] (replicate 16 0)
 
-  pub marks-refused : ¬ (k ≡ 0) → Lists (marks now table (stateOf s m)) (record { number = k; count = 0; nodes = replicate mostNodes 0; digest = replicate 16 0 })
+  pub marks-refused : ¬ (k ≡ 0) → Lists (marks clock table (stateOf s m)) (record { number = k; count = 0; nodes = replicate mostNodes 0; digest = replicate 16 0 })
   unfolding marks
-  marks-refused z = record { is = as-refused k (refusalMarks now table (stateOf s m)) e marking none z; few = omega arith; wide = length-replicate {A = ℕ} mostNodes 0; rest = refl }
+  marks-refused z = record { is = as-refused k (refusalMarks clock table (stateOf s m)) e marking none z; few = omega arith; wide = length-replicate {A = ℕ} mostNodes 0; rest = refl }
 
-  accepted : k ≡ 0 → marking ≡ marks now table (stateOf s m)
+  accepted : k ≡ 0 → marking ≡ marks clock table (stateOf s m)
   unfolding marks
-  accepted z = as-accepted k (refusalMarks now table (stateOf s m)) e marking none z
+  accepted z = as-accepted k (refusalMarks clock table (stateOf s m)) e marking none z
 
-  module _ (x : Reached) (g : Reaching (s .own) now (view (s .table) m) x) (r : Nodes) (h : Listed (x .marks) (s .table) r) where
+  module _ (x : Reached) (g : Reaching (s .own) clock (view (s .table) m) x) (r : Nodes) (h : Listed (x .marks) (s .table) r) where
     found : answer 0 (take (r .count) (r .list)) (x .digest) ≡ marking
     unfolding stateOf
     found =
-        same-answer (h .is ∙ ids-seen (x .marks) (s .table) m ∙ ap (map idOf) (reached-by (s .own) now (view (s .table) m) (x .marks) (g .marks)))
+        same-answer (h .is ∙ ids-seen (x .marks) (s .table) m ∙ ap (map idOf) (reached-by (s .own) clock (view (s .table) m) (x .marks) (g .marks)))
         (g .digest)
 
-    pub marks-accepted : k ≡ 0 → Lists (marks now table (stateOf s m)) (record { number = 0; count = r .count; nodes = r .list; digest = x .digest })
+    pub marks-accepted : k ≡ 0 → Lists (marks clock table (stateOf s m)) (record { number = 0; count = r .count; nodes = r .list; digest = x .digest })
     marks-accepted z = record { is = found ∙ accepted z; few = h .few; wide = h .wide; rest = h .rest }

@@ -36,30 +36,30 @@ module _ (d q q′ : List ℕ) (r : ℕ) (h : SavedTo d q q′ r) (same : length
         rest = ap (drop r) (h .front) ∙ written-above q d 0 fits r (omega (arith, h .size));
       }
 
-module _ (now table room : ℕ) (s : State) (m : List ℕ) (k : ℕ) (e : k ≡ refusalSave now table room (stateOf s m)) where
-  pub save-refused : (q : List ℕ) → ¬ (k ≡ 0) → SavesTo (save now table room (stateOf s m)) q (record { number = k; length = 0 }) q
+module _ (clock table room : ℕ) (s : State) (m : List ℕ) (k : ℕ) (e : k ≡ refusalSave clock table room (stateOf s m)) where
+  pub save-refused : (q : List ℕ) → ¬ (k ≡ 0) → SavesTo (save clock table room (stateOf s m)) q (record { number = k; length = 0 }) q
   unfolding save
   save-refused q z =
       record {
-        is = as-refused k (refusalSave now table room (stateOf s m)) e (answer 0 (saved (stateOf s m .own) now (stateOf s m .table))) (λ n. answer n []) z;
+        is = as-refused k (refusalSave clock table room (stateOf s m)) e (answer 0 (saved (stateOf s m .own) clock (stateOf s m .table))) (λ n. answer n []) z;
         within = omega arith;
         room = refl;
         rest = refl;
       }
 
-  accepted : k ≡ 0 → answer 0 (saved (s .own) now (view (s .table) m)) ≡ save now table room (stateOf s m)
+  accepted : k ≡ 0 → answer 0 (saved (s .own) clock (view (s .table) m)) ≡ save clock table room (stateOf s m)
   unfolding save stateOf
   accepted z =
-      as-accepted k (refusalSave now table room (stateOf s m)) e (answer 0 (saved (stateOf s m .own) now (stateOf s m .table))) (λ n. answer n []) z
+      as-accepted k (refusalSave clock table room (stateOf s m)) e (answer 0 (saved (stateOf s m .own) clock (stateOf s m .table))) (λ n. answer n []) z
 
-  pub save-accepted : (q q′ : List ℕ) (r : ℕ) → k ≡ 0 → SavedTo (saved (s .own) now (view (s .table) m)) q q′ r → length q′ ≡ length q
-      → SavesTo (save now table room (stateOf s m)) q (record { number = 0; length = r }) q′
-  save-accepted q q′ r z h same = stored (saved (s .own) now (view (s .table) m)) q q′ r h same (save now table room (stateOf s m)) (accepted z)
+  pub save-accepted : (q q′ : List ℕ) (r : ℕ) → k ≡ 0 → SavedTo (saved (s .own) clock (view (s .table) m)) q q′ r → length q′ ≡ length q
+      → SavesTo (save clock table room (stateOf s m)) q (record { number = 0; length = r }) q′
+  save-accepted q q′ r z h same = stored (saved (s .own) clock (view (s .table) m)) q q′ r h same (save clock table room (stateOf s m)) (accepted z)
 
 -- a call that is not refused may save
-pub save-ready : {s : State} {m : List ℕ} (now room k : ℕ) → AsLeft s m → k ≡ refusalSave now (length m) room (stateOf s m) → k ≡ 0
-    → Kept (s .table) m × (TableFits (s .own) now (view (s .table) m) × ((now ≤ lastReading) × (snapshotBytes ≤ room)))
+pub save-ready : {s : State} {m : List ℕ} (clock room k : ℕ) → AsLeft s m → k ≡ refusalSave clock (length m) room (stateOf s m) → k ≡ 0
+    → Kept (s .table) m × (TableFits (s .own) clock (view (s .table) m) × ((clock ≤ lastReading) × (snapshotBytes ≤ room)))
 unfolding stateOf
-save-ready {s} {m} now room k l e z =
-    let a = room-accepted now (stateOf s m) (length m) room snapshotBytes (sym e ∙ z) in
-    (left-rep l (a .1 .1 .0) .table, (left-midway l (a .1 .1 .0) now (a .1 .0) .table, (a .0, a .1 .1 .1)))
+save-ready {s} {m} clock room k l e z =
+    let a = room-accepted clock (stateOf s m) (length m) room snapshotBytes (sym e ∙ z) in
+    (left-rep l (a .1 .1 .0) .table, (left-midway l (a .1 .1 .0) clock (a .1 .0) .table, (a .0, a .1 .1 .1)))

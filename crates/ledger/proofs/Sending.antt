@@ -21,7 +21,7 @@ use Rattle.node.specs.View.{stateOf}
 use Rattle.upkeep.specs.declared.tick.Ticked.{Ticked}
 use Rattle.upkeep.specs.Ticked.{TickedFrom}
 use Rattle.exchange.specs.declared.datagram.Outcome.{Outcome}
-use Rattle.exchange.specs.Received.{callOf, Received}
+use Rattle.exchange.specs.Datagram.{callOf, Handled}
 use Rattle.ledger.specs.Promises.{AsLeft, Sends, Answers}
 use Rattle.ledger.proofs.Left.{rep-left, none-first, endpoint-accepted}
 use Rattle.ledger.proofs.Answering.{as-refused, as-accepted}
@@ -83,7 +83,7 @@ module _ (s : State) (m q : List ℕ) (l : AsLeft s m) (datagram : List ℕ) (cl
       }
 
   pub receive-yes : (o : Outcome) (m′ q′ : List ℕ) → refusalReceive call (stateOf s m) ≡ 0 → tableBytes ≤ length m → mostBytes ≤ length q → Bytes datagram
-      → Received s m q datagram clock endpoint unicast rs o m′ q′
+      → Handled s m q datagram clock endpoint unicast rs o m′ q′
       → Answers (receive call (stateOf s m)) s m q (record { number = 0; state = o .state; length = o .length; omitted = o .omitted; dropped = o .dropped }) m′ q′
   unfolding handled
   receive-yes o m′ q′ e enough wide bytes h =

@@ -12,10 +12,10 @@ use Rattle.base.proofs.Places.{find-at}
 use Rattle.model.specs.Figures.{dataLimit, tableBytes}
 use Rattle.model.specs.Table.{look}
 use Rattle.model.specs.Show.{shown, refusalShow}
-use Rattle.table.specs.View.{blank, live, rowAt, rowId, dataOf, seen, Rows, Read, Stands, Gap}
+use Rattle.table.specs.View.{blank, live, metaAt, metaId, dataOf, seen, Arranged, Read, Stands, Gap}
 use Rattle.table.specs.declared.Table.{Table}
-use Rattle.table.specs.declared.Entry.{Entry as Row}
-use Rattle.table.proofs.Rows.{live-length, look-gap, look-stands}
+use Rattle.table.specs.declared.Entry.{Entry as Meta}
+use Rattle.table.proofs.Tables.{live-length, look-gap, look-stands}
 use Rattle.node.specs.declared.State.{State}
 use Rattle.node.specs.View.{stateOf}
 use Rattle.node.proofs.Parts.{state-table}
@@ -23,14 +23,14 @@ use Rattle.ledger.specs.Promises.{AsLeft, Shows}
 
 -- ---- a node stands at one place only
 
-module _ (t : Table) (k : Rows t) (n : ℕ) where
-  row-found : (i : ℕ) → Stands t n i → find rowId n (live t) ≡ some (rowAt t i)
-  row-found i h =
-      let e : getD (live t) i blank ≡ rowAt t i = getD-take (t .count) (t .entries) i blank (h .at) in
-      find-at rowId blank n (live t) i (k .ascending) (rw (live-length t k) (h .at)) (ap rowId e ∙ h .named) ∙ ap some e
+module _ (t : Table) (k : Arranged t) (n : ℕ) where
+  meta-found : (i : ℕ) → Stands t n i → find metaId n (live t) ≡ some (metaAt t i)
+  meta-found i h =
+      let e : getD (live t) i blank ≡ metaAt t i = getD-take (t .count) (t .entries) i blank (h .at) in
+      find-at metaId blank n (live t) i (k .ascending) (rw (live-length t k) (h .at)) (ap metaId e ∙ h .named) ∙ ap some e
 
-  one-row : (i j : ℕ) → Stands t n i → Stands t n j → rowAt t i ≡ rowAt t j
-  one-row i j g h = let p : find rowId n (live t) ≡ some (rowAt t i) = row-found i g in let q : find rowId n (live t) ≡ some (rowAt t j) = row-found j h in cc
+  one-row : (i j : ℕ) → Stands t n i → Stands t n j → metaAt t i ≡ metaAt t j
+  one-row i j g h = let p : find metaId n (live t) ≡ some (metaAt t i) = meta-found i g in let q : find metaId n (live t) ≡ some (metaAt t j) = meta-found j h in cc
 
 -- ---- the number of the call
 
@@ -39,11 +39,11 @@ module _ (n : ℕ) (s : State) (m : List ℕ) where
   show-small h = rw (lt-ltb (length m) tableBytes h)
 
   module _ (l : AsLeft s m) (room : tableBytes ≤ length m) (i : ℕ) where
-    shown-entry : Stands (s .table) n i → look n (stateOf s m .table) ≡ some (seen m (rowAt (s .table) i))
-    shown-entry h = ap (look n) (state-table s m) ∙ look-stands (s .table) (l .rows) n i m h
+    shown-entry : Stands (s .table) n i → look n (stateOf s m .table) ≡ some (seen m (metaAt (s .table) i))
+    shown-entry h = ap (look n) (state-table s m) ∙ look-stands (s .table) (l .arranged) n i m h
 
     shown-nowhere : Gap (s .table) n i → look n (stateOf s m .table) ≡ none
-    shown-nowhere h = ap (look n) (state-table s m) ∙ look-gap (s .table) (l .rows) n i m h
+    shown-nowhere h = ap (look n) (state-table s m) ∙ look-gap (s .table) (l .arranged) n i m h
 
     pub show-found : Stands (s .table) n i → 0 ≡ refusalShow n (length m) (stateOf s m)
     show-found h = rw (le-ltb (length m) tableBytes room, shown-entry h)
@@ -73,8 +73,8 @@ module _ (n : ℕ) (s : State) (m : List ℕ) where
     shows-missing h =
         shows-nothing (λ z. let e : 10 ≡ refusalShow n (length m) (stateOf s m) = show-missing n s m l room i h in omega (arith, e, z))
 
-    module _ (h : Stands (s .table) n i) (e : Row) (r : Read (s .table) i e) where
-      shown-is : shown n (length m) (stateOf s m) ≡ dataOf m (rowAt (s .table) i)
+    module _ (h : Stands (s .table) n i) (e : Meta) (r : Read (s .table) i e) where
+      shown-is : shown n (length m) (stateOf s m) ≡ dataOf m (metaAt (s .table) i)
       unfolding shown
       shown-is = rw (eq-eqb (refusalShow n (length m) (stateOf s m)) 0 (sym (show-found n s m l room i h)), shown-entry n s m l room i h)
 
@@ -83,6 +83,6 @@ module _ (n : ℕ) (s : State) (m : List ℕ) where
           record {
             is = ap (dataOf m) (r .same) ∙ sym shown-is;
             within = omega (arith, r .low, r .short);
-            slot = λ z j g. ap (λ (x : Row). x .slot * dataLimit) (r .same ∙ one-row (s .table) (l .rows) n i j h g);
+            slot = λ z j g. ap (λ (x : Meta). x .slot * dataLimit) (r .same ∙ one-row (s .table) (l .arranged) n i j h g);
             refused = λ z. absurd (z (sym (show-found n s m l room i h)));
           }

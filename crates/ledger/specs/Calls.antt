@@ -18,7 +18,7 @@ use Rattle.model.specs.Theorems.{Exact}
 use Rattle.table.specs.View.{view}
 use Rattle.node.specs.View.{stateOf}
 use Rattle.node.specs.declared.State.{State}
-use Rattle.exchange.specs.Received.{callOf}
+use Rattle.exchange.specs.Datagram.{callOf}
 use Rattle.ledger.specs.declared.answers.Done.{Done}
 use Rattle.ledger.specs.declared.answers.Sent.{Sent}
 use Rattle.ledger.specs.declared.answers.Answer.{Answer}

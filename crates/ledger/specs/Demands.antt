@@ -27,7 +27,7 @@ use Rattle.model.specs.Digest.{networkDigest}
 use Rattle.table.specs.View.{view}
 use Rattle.node.specs.View.{stateOf}
 use Rattle.node.specs.declared.State.{State}
-use Rattle.exchange.specs.Received.{callOf}
+use Rattle.exchange.specs.Datagram.{callOf}
 use Rattle.ledger.specs.declared.answers.Done.{Done}
 use Rattle.ledger.specs.declared.answers.Sent.{Sent}
 use Rattle.ledger.specs.declared.answers.Answer.{Answer}
@@ -66,14 +66,14 @@ abbrev pub SentOf : State → List ℕ → Call → List ℕ → Type 0
 SentOf s m c u =
     (before : List (List ℕ)) × (t : List ℕ) × (later : List (List ℕ)) × (tlvs (c .datagram) ≡ before ++ (t ∷ later)) × (e : Entry) ×
     (let w : ModelWork = allTlvs (contextOf (stateOf s m) c) before (startOf (stateOf s m)) in
-    In e (w .state .table) × Chained (w .state .own) (c .now) (w .state .table) (idOf e)) × ((u ≡ shortState (c .now) e) ⊎ (u ≡ wholeState (c .now) e))
+    In e (w .state .table) × Chained (w .state .own) (c .clock) (w .state .table) (idOf e)) × ((u ≡ shortState (c .clock) e) ⊎ (u ≡ wholeState (c .clock) e))
 
 -- u is a Network State with the digest over exactly the nodes that a chain reached at such a moment
 abbrev pub ToldOf : State → List ℕ → Call → List ℕ → Type 0
 ToldOf s m c u =
     (before : List (List ℕ)) × (t : List ℕ) × (later : List (List ℕ)) × (tlvs (c .datagram) ≡ before ++ (t ∷ later)) × (es : List Entry) ×
     (let w : ModelWork = allTlvs (contextOf (stateOf s m) c) before (startOf (stateOf s m)) in
-    Reachable (w .state .own) (c .now) (w .state .table) es) × (u ≡ networkTlv (digestOver es))
+    Reachable (w .state .own) (c .clock) (w .state .table) es) × (u ≡ networkTlv (digestOver es))
 
 pub record OnlyReachable : Type 0 where
   pub marked : (clock : ℕ) (s : State) (m : List ℕ) (r : Marked) → AsLeft s m → Marks clock s m r → r .number ≡ 0
@@ -166,9 +166,9 @@ pub record DeliveryLosesNothing : Type 0 where
       → SameHeard (stateOf s m) (callsOf (length m) xs) (callsOf (length m) ys) → statements (tableAfter s m xs) ≡ statements (tableAfter s m ys)
   pub marks : (s : State) (m : List ℕ) (xs ys : List Delivery) → Delivered s m xs → Delivered s m ys
       → SameHeard (stateOf s m) (callsOf (length m) xs) (callsOf (length m) ys)
-      → (now : ℕ) → Under now (tableAfter s m xs) → Under now (tableAfter s m ys)
-      → ((n : ℕ) → inReach (s .own) now (tableAfter s m xs) n ≡ inReach (s .own) now (tableAfter s m ys) n)
-      × (networkDigest (s .own) now (tableAfter s m xs) ≡ networkDigest (s .own) now (tableAfter s m ys))
+      → (clock : ℕ) → Under clock (tableAfter s m xs) → Under clock (tableAfter s m ys)
+      → ((n : ℕ) → inReach (s .own) clock (tableAfter s m xs) n ≡ inReach (s .own) clock (tableAfter s m ys) n)
+      × (networkDigest (s .own) clock (tableAfter s m xs) ≡ networkDigest (s .own) clock (tableAfter s m ys))
   -- over the calls that show them: where `marks` is accepted after both lists, both answers are the same
   pub answers : (s : State) (m : List ℕ) (xs ys : List Delivery) → Delivered s m xs → Delivered s m ys
       → SameHeard (stateOf s m) (callsOf (length m) xs) (callsOf (length m) ys)

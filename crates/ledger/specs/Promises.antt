@@ -14,10 +14,10 @@ use Rattle.model.specs.Totals.{Summed as ModelSummed, total, sum}
 use Rattle.model.specs.Show.{Marks as ModelMarks, marks, shown, refusalShow}
 use Rattle.model.specs.Snapshot.{Saved as ModelSaved, resume, save}
 use Rattle.model.specs.Invariant.{Valid}
-use Rattle.table.specs.View.{live, rowAt, Rows, Hashed, Stands}
+use Rattle.table.specs.View.{live, metaAt, Arranged, Hashed, Stands}
 use Rattle.node.specs.View.{stateOf, PeersRep}
 use Rattle.node.specs.declared.State.{State}
-use Rattle.exchange.specs.Received.{callOf}
+use Rattle.exchange.specs.Datagram.{callOf}
 use Rattle.ledger.specs.declared.answers.Done.{Done}
 use Rattle.ledger.specs.declared.answers.Sent.{Sent}
 use Rattle.ledger.specs.declared.answers.Answer.{Answer}
@@ -29,7 +29,7 @@ use Rattle.ledger.specs.declared.answers.Extent.{Extent}
 -- The one premise, which every call restores: state and table memory are as the last call left them. A memory below its figure is refused, so nothing
 -- is asked of its bytes.
 pub record AsLeft (s : State) (m : List ℕ) : Type 0 where
-  pub rows : Rows (s .table)
+  pub arranged : Arranged (s .table)
   pub peers : PeersRep (s .peers)
   pub four : length (s .endpoints) ≡ 4
   pub digest : length (s .digest) ≡ 16
@@ -95,7 +95,7 @@ pub record SavesTo (d : ModelSaved) (q : List ℕ) (r : Saved) (q′ : List ℕ)
 pub record Shows (n : ℕ) (s : State) (m : List ℕ) (r : Extent) : Type 0 where
   pub is : take (r .length) (drop (r .start) m) ≡ shown n (length m) (stateOf s m)
   pub within : r .start + r .length ≤ length m
-  pub slot : refusalShow n (length m) (stateOf s m) ≡ 0 → (i : ℕ) → Stands (s .table) n i → r .start ≡ rowAt (s .table) i .slot * dataLimit
+  pub slot : refusalShow n (length m) (stateOf s m) ≡ 0 → (i : ℕ) → Stands (s .table) n i → r .start ≡ metaAt (s .table) i .slot * dataLimit
   pub refused : ¬ (refusalShow n (length m) (stateOf s m) ≡ 0) → (r .start ≡ 0) × (r .length ≡ 0)
 
 -- ---- the calls, each by its name: s and m are state and table memory that came in, r is the answer, m′ the memory after it; q and q′ the room

@@ -4,7 +4,7 @@ use node::State;
 use table::Found;
 use table::SLOT;
 use table::find;
-use table::row_at;
+use table::meta_at;
 ghost use mathlib.Core.Path.{_≡_};
 ghost use Prim.Native.Nat.{_+_};
 ghost use Rattle.ledger.specs.declared.answers.Extent.{Extent};
@@ -40,7 +40,7 @@ pub fn extent(s: State, mem: &[u8], node: u32) -> Extent
     let found = find(s.table, node);
     match found {
         Found::At(i) => {
-            let e = row_at(s.table, i);
+            let e = meta_at(s.table, i);
             Extent {
                 start: e.slot * SLOT,
                 length: e.len,

@@ -8,11 +8,11 @@ use accounts::totals::tally;
 use node::State;
 use reach::reach;
 use table::Table;
-use table::row_at;
+use table::meta_at;
 ghost use Prim.Native.Nat.{_≤_};
 ghost use Rattle.model.specs.Figures.{lastReading};
 ghost use Rattle.model.specs.Invariant.{Midway};
-ghost use Rattle.table.specs.View.{Rows};
+ghost use Rattle.table.specs.View.{Arranged};
 ghost use Rattle.node.specs.View.{stateOf, Rep};
 ghost use Rattle.ledger.specs.Promises.{AsLeft, Totals, SumsUp, Marks, Saves};
 ghost use Rattle.ledger.specs.Inner.{Summing, Listed};
@@ -88,7 +88,7 @@ pub struct Nodes {
 
 // The identifiers of the marked nodes, ascending.
 fn marked_nodes(t: Table, marks: [bool; 32]) -> Nodes
-    requires { ⌜ Rows t ⌝ }
+    requires { ⌜ Arranged t ⌝ }
     ensures { λ r. ⌜ Listed marks t r ⌝ }
 {
     let count = t.count;
@@ -97,7 +97,7 @@ fn marked_nodes(t: Table, marks: [bool; 32]) -> Nodes
     let mut i = 0;
     while i < count {
         if marks[i] {
-            let e = row_at(t, i);
+            let e = meta_at(t, i);
             list[n] = e.id;
             n += 1;
         }

@@ -23,7 +23,7 @@ use Rattle.model.specs.Trickle.{Trickle, fresh, spend, reset, pointDue, 
 use Rattle.model.specs.State.{State, Peer, Endpoint, withTable, withPeers, withTrickle, endpointAt, ownEntry, ownData, publishAs, publish, resetAll, settle}
 use Rattle.model.specs.Messages.{requestNetworkTlv, requestNodeTlv, endpointTlv, networkTlv, shortState, wholeState}
 use Rattle.model.specs.Decide.{Received, Decision, receivedOf, differs, decide, after}
-use Rattle.model.specs.Handle.{Context, Sender, Work, withState, withSender, withOut, omitOne, dropOne, piece, fits, reply, replies, mayAsk, hasAsked, askNetwork, touchBy, touch, digestNow, reachedNow, onRequestNetwork, onRequestNode, newPeer, roomForPeer, addPeer, greet, knows, onStranger, onEndpoint, heard, onEqual, onNetwork, onOwnState, carryOut, onState, onTlv, oneTlv, allTlvs}
+use Rattle.model.specs.Handle.{Context, Sender, Work, withState, withSender, withOut, omitOne, dropOne, piece, fits, reply, replies, mayAsk, hasAsked, askNetwork, touchBy, touch, digestNow, reachedNow, onRequestNetwork, onRequestNode, newPeer, roomForPeer, addPeer, greet, knows, onStranger, onEndpoint, countEqual, onEqual, onNetwork, onOwnState, carryOut, onState, onTlv, oneTlv, allTlvs}
 use Rattle.model.specs.Receive.{Call, contextOf, startOf, handled, refusalReceive, answered, receive}
 use Rattle.model.specs.Tick.{goes, withoutPeers, someOf, dropSilent, withEvent, ticked, refusalTick, tick}
 
@@ -108,27 +108,27 @@ module _ (c : Context) (w : Work) where
 
   -- ---- type 1 and type 2
 
-  pub request-network : onRequestNetwork c w ≡ replies c (networkTlv (digestNow c w) ∷ map (shortState (c .now)) (reachedNow c w)) w
+  pub request-network : onRequestNetwork c w ≡ replies c (networkTlv (digestNow c w) ∷ map (shortState (c .clock)) (reachedNow c w)) w
   unfolding onRequestNetwork
   request-network = refl
 
   module _ (n : ℕ) where
-    pub request-node-unreachable : inReach (w .state .own) (c .now) (w .state .table) n ≡ false → onRequestNode c n w ≡ w
+    pub request-node-unreachable : inReach (w .state .own) (c .clock) (w .state .table) n ≡ false → onRequestNode c n w ≡ w
     unfolding onRequestNode
     request-node-unreachable e = rw e
 
     pub request-node-unknown : look n (w .state .table) ≡ none → onRequestNode c n w ≡ w
     unfolding onRequestNode
-    request-node-unknown e = rw e (cond-same (inReach (w .state .own) (c .now) (w .state .table) n) w)
+    request-node-unknown e = rw e (cond-same (inReach (w .state .own) (c .clock) (w .state .table) n) w)
 
-    pub request-node-reached : inReach (w .state .own) (c .now) (w .state .table) n ≡ true → (e : Entry) → look n (w .state .table) ≡ some e → onRequestNode c n w ≡ reply c (wholeState (c .now) e) w
+    pub request-node-reached : inReach (w .state .own) (c .clock) (w .state .table) n ≡ true → (e : Entry) → look n (w .state .table) ≡ some e → onRequestNode c n w ≡ reply c (wholeState (c .clock) e) w
     unfolding onRequestNode
     request-node-reached i e l = rw (i, l)
 
   -- ---- type 3
 
   module _ (f : Sender) where
-    pub greet-room : roomForPeer (w .state) ≡ true → greet c f w ≡ withState (addPeer (c .now) (newPeer c f) (w .state)) w
+    pub greet-room : roomForPeer (w .state) ≡ true → greet c f w ≡ withState (addPeer (c .clock) (newPeer c f) (w .state)) w
     unfolding greet
     greet-room e = rw e
 
@@ -162,7 +162,7 @@ module _ (c : Context) (w : Work) where
   unfolding onEqual
   equal-unicast e = rw e
 
-  pub equal-multicast : c .unicast ≡ false → onEqual c w ≡ withState (heard c (touch c w .state)) (touch c w)
+  pub equal-multicast : c .unicast ≡ false → onEqual c w ≡ withState (countEqual c (touch c w .state)) (touch c w)
   unfolding onEqual
   equal-multicast e = rw e
 
@@ -182,7 +182,7 @@ module _ (c : Context) (w : Work) where
   -- ---- type 5
 
   module _ (r : Received) where
-    pub own-reclaimed : differs (ownEntry (w .state)) r ≡ true → onOwnState c r w ≡ withState (publishAs (c .now) (advance (r .seq) reclaimStep) (ownData (w .state)) (w .state)) w
+    pub own-reclaimed : differs (ownEntry (w .state)) r ≡ true → onOwnState c r w ≡ withState (publishAs (c .clock) (advance (r .seq) reclaimStep) (ownData (w .state)) (w .state)) w
     unfolding onOwnState
     own-reclaimed e = rw e
 
@@ -194,7 +194,7 @@ module _ (c : Context) (w : Work) where
     unfolding onState
     state-own e = rw (eq-eqb (r .node) (w .state .own) e)
 
-    pub state-other : ¬ (r .node ≡ w .state .own) → onState c r w ≡ carryOut c (decide (c .now) (w .state .table) r) w
+    pub state-other : ¬ (r .node ≡ w .state .own) → onState c r w ≡ carryOut c (decide (c .clock) (w .state .table) r) w
     unfolding onState
     state-other n = rw (ne-eqb (r .node) (w .state .own) n)
 
@@ -307,46 +307,46 @@ module _ (v : List ℕ) where
 
 -- ---- Trickle: the send point is due, the interval is over, or nothing is due
 
-module _ (now random : ℕ) (t : Trickle) where
-  pub event-point : pointDue now t ≡ true → event now random t ≡ record { sends = ltb (t .count) redundancy; next = spend t }
+module _ (clock random : ℕ) (t : Trickle) where
+  pub event-point : pointDue clock t ≡ true → event clock random t ≡ record { sends = ltb (t .count) redundancy; next = spend t }
   unfolding event
   event-point e = rw e
 
-  pub event-over : pointDue now t ≡ false → t .start + t .interval ≤ now → event now random t ≡ record { sends = false; next = fresh now (min (t .interval * 2) greatestInterval) random }
+  pub event-over : pointDue clock t ≡ false → t .start + t .interval ≤ clock → event clock random t ≡ record { sends = false; next = fresh clock (min (t .interval * 2) greatestInterval) random }
   unfolding event
-  event-over e h = rw (e, le-leb (t .start + t .interval) now h)
+  event-over e h = rw (e, le-leb (t .start + t .interval) clock h)
 
-  pub event-none : pointDue now t ≡ false → now < t .start + t .interval → event now random t ≡ record { sends = false; next = t }
+  pub event-none : pointDue clock t ≡ false → clock < t .start + t .interval → event clock random t ≡ record { sends = false; next = t }
   unfolding event
-  event-none e h = rw (e, lt-leb (t .start + t .interval) now h)
+  event-none e h = rw (e, lt-leb (t .start + t .interval) clock h)
 
-  pub reset-longer : leastInterval < t .interval → reset now random t ≡ fresh now leastInterval random
+  pub reset-longer : leastInterval < t .interval → reset clock random t ≡ fresh clock leastInterval random
   unfolding reset
   reset-longer h = rw (lt-ltb leastInterval (t .interval) h)
 
-  pub reset-least : t .interval ≤ leastInterval → reset now random t ≡ t
+  pub reset-least : t .interval ≤ leastInterval → reset clock random t ≡ t
   unfolding reset
   reset-least h = rw (le-ltb leastInterval (t .interval) h)
 
 -- ---- settling: the digest is as before, or every endpoint is reset with its random number
 
-pub reset-all-none : (now : ℕ) (rs : List ℕ) → resetAll now rs [] ≡ []
+pub reset-all-none : (clock : ℕ) (rs : List ℕ) → resetAll clock rs [] ≡ []
 unfolding resetAll
-reset-all-none now rs = refl
+reset-all-none clock rs = refl
 
-pub reset-all-next : (now r : ℕ) (rs : List ℕ) (e : Endpoint) (es : List Endpoint)
-    → resetAll now (r ∷ rs) (e ∷ es) ≡ withTrickle (reset now r (e .trickle)) e ∷ resetAll now rs es
+pub reset-all-next : (clock r : ℕ) (rs : List ℕ) (e : Endpoint) (es : List Endpoint)
+    → resetAll clock (r ∷ rs) (e ∷ es) ≡ withTrickle (reset clock r (e .trickle)) e ∷ resetAll clock rs es
 unfolding resetAll
-reset-all-next now r rs e es = refl
+reset-all-next clock r rs e es = refl
 
-module _ (now : ℕ) (rs : List ℕ) (s : State) where
-  pub settle-same : same (s .digest) (networkDigest (s .own) now (s .table)) ≡ true
-      → settle now rs s ≡ record { own = s .own; last = now; table = s .table; peers = s .peers; endpoints = s .endpoints; digest = networkDigest (s .own) now (s .table) }
+module _ (clock : ℕ) (rs : List ℕ) (s : State) where
+  pub settle-same : same (s .digest) (networkDigest (s .own) clock (s .table)) ≡ true
+      → settle clock rs s ≡ record { own = s .own; last = clock; table = s .table; peers = s .peers; endpoints = s .endpoints; digest = networkDigest (s .own) clock (s .table) }
   unfolding settle
   settle-same e = rw e
 
-  pub settle-reset : same (s .digest) (networkDigest (s .own) now (s .table)) ≡ false
-      → settle now rs s ≡ record { own = s .own; last = now; table = s .table; peers = s .peers; endpoints = resetAll now rs (s .endpoints); digest = networkDigest (s .own) now (s .table) }
+  pub settle-reset : same (s .digest) (networkDigest (s .own) clock (s .table)) ≡ false
+      → settle clock rs s ≡ record { own = s .own; last = clock; table = s .table; peers = s .peers; endpoints = resetAll clock rs (s .endpoints); digest = networkDigest (s .own) clock (s .table) }
   unfolding settle
   settle-reset e = rw e
 
@@ -354,40 +354,40 @@ module _ (now : ℕ) (rs : List ℕ) (s : State) where
 
 -- the peers of an endpoint that go, and those that stay
 abbrev pub gone : ℕ → ℕ → State → List Peer
-gone now i s = keep (goes now i (s .table)) (s .peers)
+gone clock i s = keep (goes clock i (s .table)) (s .peers)
 
 abbrev pub stay : ℕ → ℕ → State → List Peer
-stay now i s = keep (λ p. not (goes now i (s .table) p)) (s .peers)
+stay clock i s = keep (λ p. not (goes clock i (s .table) p)) (s .peers)
 
-module _ (now i : ℕ) (s : State) where
-  pub silent-none : someOf (gone now i s) ≡ false → ageAt now (ownEntry s) < refreshAge → dropSilent now i s ≡ s
+module _ (clock i : ℕ) (s : State) where
+  pub silent-none : someOf (gone clock i s) ≡ false → ageAt clock (ownEntry s) < refreshAge → dropSilent clock i s ≡ s
   unfolding dropSilent
-  silent-none e h = rw (e, lt-leb refreshAge (ageAt now (ownEntry s)) h)
+  silent-none e h = rw (e, lt-leb refreshAge (ageAt clock (ownEntry s)) h)
 
-  pub silent-some : someOf (gone now i s) || leb refreshAge (ageAt now (ownEntry s)) ≡ true
-      → dropSilent now i s ≡ withPeers (stay now i s) (publish now (withoutPeers (gone now i s) (ownData s)) s)
+  pub silent-some : someOf (gone clock i s) || leb refreshAge (ageAt clock (ownEntry s)) ≡ true
+      → dropSilent clock i s ≡ withPeers (stay clock i s) (publish clock (withoutPeers (gone clock i s) (ownData s)) s)
   unfolding dropSilent
   silent-some e = rw e
 
   -- our identifier and our endpoints stay
-  pub silent-own : dropSilent now i s .own ≡ s .own
+  pub silent-own : dropSilent clock i s .own ≡ s .own
   unfolding dropSilent publishAs
-  silent-own = by-test (someOf (gone now i s) || leb refreshAge (ageAt now (ownEntry s))) (λ e. rw e) (λ e. rw e)
+  silent-own = by-test (someOf (gone clock i s) || leb refreshAge (ageAt clock (ownEntry s))) (λ e. rw e) (λ e. rw e)
 
-  pub silent-endpoints : dropSilent now i s .endpoints ≡ s .endpoints
+  pub silent-endpoints : dropSilent clock i s .endpoints ≡ s .endpoints
   unfolding dropSilent publishAs
-  silent-endpoints = by-test (someOf (gone now i s) || leb refreshAge (ageAt now (ownEntry s))) (λ e. rw e) (λ e. rw e)
+  silent-endpoints = by-test (someOf (gone clock i s) || leb refreshAge (ageAt clock (ownEntry s))) (λ e. rw e) (λ e. rw e)
 
   -- a tick: silent peers go, the digest is compared, then at most one event
-  pub ticked-is : (rs : List ℕ) → ticked now i rs s ≡ withEvent i (settle now rs (dropSilent now i s)) (event now (getD rs (pred i) 0) (endpointAt i (settle now rs (dropSilent now i s)) .trickle))
+  pub ticked-is : (rs : List ℕ) → ticked clock i rs s ≡ withEvent i (settle clock rs (dropSilent clock i s)) (event clock (getD rs (pred i) 0) (endpointAt i (settle clock rs (dropSilent clock i s)) .trickle))
   unfolding ticked
   ticked-is rs = refl
 
   module _ (rs : List ℕ) (table room : ℕ) where
-    pub tick-accepted : refusalTick now i table room s ≡ 0 → tick now i rs table room s ≡ ticked now i rs s
+    pub tick-accepted : refusalTick clock i table room s ≡ 0 → tick clock i rs table room s ≡ ticked clock i rs s
     unfolding tick
     tick-accepted e = rw e
 
-    pub tick-refused : ¬ (refusalTick now i table room s ≡ 0) → tick now i rs table room s ≡ record { number = refusalTick now i table room s; state = s; bytes = [] }
+    pub tick-refused : ¬ (refusalTick clock i table room s ≡ 0) → tick clock i rs table room s ≡ record { number = refusalTick clock i table room s; state = s; bytes = [] }
     unfolding tick
-    tick-refused n = rw (ne-eqb (refusalTick now i table room s) 0 n)
+    tick-refused n = rw (ne-eqb (refusalTick clock i table room s) 0 n)

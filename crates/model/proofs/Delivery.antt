@@ -76,17 +76,17 @@ module _ (all : List Statement) (a : Agreed all) where
 abbrev young : Statement → Vertex
 young x = record { says = x; young = true }
 
-all-young : (now : ℕ) (t : List Entry) → Under now t → vertices now t ≡ map young (statements t)
-all-young now [] u = refl
-all-young now (e ∷ t) u =
-    let h : underAge now e ≡ true = u e (inl refl) in
-    let r = all-young now t (λ f m. u f (inr m)) in
+all-young : (clock : ℕ) (t : List Entry) → Under clock t → vertices clock t ≡ map young (statements t)
+all-young clock [] u = refl
+all-young clock (e ∷ t) u =
+    let h : underAge clock e ≡ true = u e (inl refl) in
+    let r = all-young clock t (λ f m. u f (inr m)) in
     λ i. record { says = e .says; young = h i } ∷ r i
 
 -- what is reachable depends on our identifier, the vertices and the statements
-reached-says : (own now : ℕ) (t : List Entry) → statements (reached own now t) ≡ keep (λ x. marked own (vertices now t) (x .node)) (statements t)
+reached-says : (own clock : ℕ) (t : List Entry) → statements (reached own clock t) ≡ keep (λ x. marked own (vertices clock t) (x .node)) (statements t)
 unfolding reached inReach
-reached-says own now t = map-keep saysOf (λ x. marked own (vertices now t) (x .node)) t
+reached-says own clock t = map-keep saysOf (λ x. marked own (vertices clock t) (x .node)) t
 
 -- ---- both halves
 
@@ -122,19 +122,19 @@ module _ (s : State) (cs : List Call) (p : Premises s cs) where
     same-own : run s cs .own ≡ run s ds .own
     same-own = own-stays cs s (p .lone) ∙ sym (own-stays ds s (q .lone))
 
-    same-vertices : (now : ℕ) → Under now (run s cs .table) → Under now (run s ds .table) → vertices now (run s cs .table) ≡ vertices now (run s ds .table)
-    same-vertices now u v = all-young now (run s cs .table) u ∙ ap (map young) same-table ∙ sym (all-young now (run s ds .table) v)
+    same-vertices : (clock : ℕ) → Under clock (run s cs .table) → Under clock (run s ds .table) → vertices clock (run s cs .table) ≡ vertices clock (run s ds .table)
+    same-vertices clock u v = all-young clock (run s cs .table) u ∙ ap (map young) same-table ∙ sym (all-young clock (run s ds .table) v)
 
     alike : Alike s cs ds
     unfolding inReach networkDigest
     alike =
         record {
           table = same-table;
-          marks = λ now u v n i. marked (same-own i) (same-vertices now u v i) n;
-          digest = λ now u v. ap digestOf
-              (reached-says (run s cs .own) now (run s cs .table)
-              ∙ (λ i. keep (λ x. marked (same-own i) (same-vertices now u v i) (x .node)) (same-table i))
-              ∙ sym (reached-says (run s ds .own) now (run s ds .table)));
+          marks = λ clock u v n i. marked (same-own i) (same-vertices clock u v i) n;
+          digest = λ clock u v. ap digestOf
+              (reached-says (run s cs .own) clock (run s cs .table)
+              ∙ (λ i. keep (λ x. marked (same-own i) (same-vertices clock u v i) (x .node)) (same-table i))
+              ∙ sym (reached-says (run s ds .own) clock (run s ds .table)));
         }
 
 pub order-loses-nothing : OrderLosesNothing

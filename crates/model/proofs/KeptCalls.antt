@@ -34,12 +34,12 @@ use Rattle.model.proofs.KeptData.{none-good, none-linked, empty-linked,
 
 -- ---- a state that is started: no peers, so no Peer TLV of ours
 
-fresh-all : (now : ℕ) (rs : List ℕ) → All (EndpointFits now) (freshEndpoints now rs)
-fresh-all now [] = tt
-fresh-all now (r ∷ rs) = (record { trickle = fresh-fits now leastInterval r (inl refl); next = omega arith }, fresh-all now rs)
+fresh-all : (clock : ℕ) (rs : List ℕ) → All (EndpointFits clock) (freshEndpoints clock rs)
+fresh-all clock [] = tt
+fresh-all clock (r ∷ rs) = (record { trickle = fresh-fits clock leastInterval r (inl refl); next = omega arith }, fresh-all clock rs)
 
-module _ (own now : ℕ) (rs : List ℕ) (t : List Entry) (e : Entry) where
-  started-valid : own < circle → now ≤ lastReading → length rs ≡ 4 → TableFits own now t → look own t ≡ some e → Linked (e .says .nodeData) [] → Valid (started own now rs t)
+module _ (own clock : ℕ) (rs : List ℕ) (t : List Entry) (e : Entry) where
+  started-valid : own < circle → clock ≤ lastReading → length rs ≡ 4 → TableFits own clock t → look own t ≡ some e → Linked (e .says .nodeData) [] → Valid (started own clock rs t)
   unfolding started ownEntry
   started-valid o l r h q k =
       record {
@@ -48,7 +48,7 @@ module _ (own now : ℕ) (rs : List ℕ) (t : List Entry) (e : Entry) where
           table = h;
           peers = record { few = omega arith; once = tt; all = tt };
           links = subst (λ (x : Option Entry). Linked (orElse x noEntry (λ f. f) .says .nodeData) []) (sym q) k;
-          endpoints = record { four = length-map rs _ ∙ r; all = fresh-all now rs };
+          endpoints = record { four = length-map rs _ ∙ r; all = fresh-all clock rs };
         };
         last = l;
         digest = refl;
@@ -60,11 +60,11 @@ empty-good : good dataLimit [] ≡ true
 unfolding ascending
 empty-good = good-made dataLimit [] tt refl (omega arith)
 
-pub begun-valid : (own now : ℕ) (rs : List ℕ) → own < circle → now ≤ lastReading → length rs ≡ 4 → Valid (begun own now rs)
+pub begun-valid : (own clock : ℕ) (rs : List ℕ) → own < circle → clock ≤ lastReading → length rs ≡ 4 → Valid (begun own clock rs)
 unfolding begun look
-begun-valid own now rs o l r =
-    let q : look own (entryOf own 0 [] 0 now ∷ []) ≡ some (entryOf own 0 [] 0 now) = find-yes idOf own (entryOf own 0 [] 0 now) [] refl in
-    started-valid own now rs (entryOf own 0 [] 0 now ∷ []) (entryOf own 0 [] 0 now) o l r
+begun-valid own clock rs o l r =
+    let q : look own (entryOf own 0 [] 0 clock ∷ []) ≡ some (entryOf own 0 [] 0 clock) = find-yes idOf own (entryOf own 0 [] 0 clock) [] refl in
+    started-valid own clock rs (entryOf own 0 [] 0 clock ∷ []) (entryOf own 0 [] 0 clock) o l r
     (record {
       ascending = (tt, tt);
       held = ap isSome q;
@@ -77,121 +77,121 @@ pub blank-valid : Valid blank
 unfolding blank
 blank-valid = begun-valid 0 0 (0 ∷ 0 ∷ 0 ∷ 0 ∷ []) (omega arith) (omega arith) refl
 
-module _ (own now : ℕ) (rs : List ℕ) (table : ℕ) (s : State) where
+module _ (own clock : ℕ) (rs : List ℕ) (table : ℕ) (s : State) where
   abbrev rowsBegin : List Row
-  rowsBegin = late now ∷ smallTable table ∷ []
+  rowsBegin = late clock ∷ smallTable table ∷ []
 
-  pub begin-valid : own < circle → length rs ≡ 4 → Valid s → Valid (begin own now rs table s .state)
+  pub begin-valid : own < circle → length rs ≡ 4 → Valid s → Valid (begin own clock rs table s .state)
   unfolding begin
   begin-valid o r v =
-      by-cond (λ (a : Done). Valid (a .state)) (eqb (refusalBegin now table) 0) (record { number = 0; state = begun own now rs }) _
-      (λ b. begun-valid own now rs o (not-late now (none-applies rowsBegin (omega arith) b .0)) r) (λ b. v)
+      by-cond (λ (a : Done). Valid (a .state)) (eqb (refusalBegin clock table) 0) (record { number = 0; state = begun own clock rs }) _
+      (λ b. begun-valid own clock rs o (not-late clock (none-applies rowsBegin (omega arith) b .0)) r) (λ b. v)
 
 -- ---- resuming
 
-module _ (now : ℕ) (rs : List ℕ) (b : Snapshot) (f : SnapshotFits now b) where
+module _ (clock : ℕ) (rs : List ℕ) (b : Snapshot) (f : SnapshotFits clock b) where
   -- our entry as it was saved, and as it is published again
   abbrev before : Entry
   before = orElse (look (b .own) (b .entries)) noEntry (λ e. e)
 
   abbrev again : Entry
-  again = entryOf (b .own) (advance (before .says .seq) 1) (withoutLinks (before .says .nodeData)) 0 now
+  again = entryOf (b .own) (advance (before .says .seq) 1) (withoutLinks (before .says .nodeData)) 0 clock
 
   before-held : look (b .own) (b .entries) ≡ some before
   before-held = found (look (b .own) (b .entries)) (f .table .held)
 
   pub before-good : good dataLimit (before .says .nodeData) ≡ true
   unfolding look
-  before-good = all-in (EntryFits now) before (b .entries) (f .table .entries) (find-some idOf (b .own) before (b .entries) before-held .0) .fine
+  before-good = all-in (EntryFits clock) before (b .entries) (f .table .entries) (find-some idOf (b .own) before (b .entries) before-held .0) .fine
 
-  again-fits : TableFits (b .own) now (put again (b .entries))
+  again-fits : TableFits (b .own) clock (put again (b .entries))
   again-fits =
       put-fits again (b .entries) (f .table)
       (record { node = f .own; seq = advance-fits (before .says .seq) 1; fine = none-good (before .says .nodeData) before-good; age = omega arith; since = omega arith })
       (λ z. let y : _≡_ {A = ℕ} 0 1 = cc before-held in absurd (omega arith))
 
-  pub resumed-valid : now ≤ lastReading → length rs ≡ 4 → Valid (resumed now rs b)
+  pub resumed-valid : clock ≤ lastReading → length rs ≡ 4 → Valid (resumed clock rs b)
   unfolding resumed republished
   resumed-valid l r =
-      started-valid (b .own) now rs (put again (b .entries)) again (f .own) l r again-fits (look-put again (b .entries)) (none-linked (before .says .nodeData) before-good)
+      started-valid (b .own) clock rs (put again (b .entries)) again (f .own) l r again-fits (look-put again (b .entries)) (none-linked (before .says .nodeData) before-good)
 
-module _ (now : ℕ) (bytes rs : List ℕ) (table : ℕ) (s : State) where
+module _ (clock : ℕ) (bytes rs : List ℕ) (table : ℕ) (s : State) where
   abbrev rowsResume : List Row
-  rowsResume = late now ∷ smallTable table ∷ noSnapshot now bytes ∷ []
+  rowsResume = late clock ∷ smallTable table ∷ noSnapshot clock bytes ∷ []
 
-  pub resume-valid : length rs ≡ 4 → Valid s → Valid (resume now bytes rs table s .state)
+  pub resume-valid : length rs ≡ 4 → Valid s → Valid (resume clock bytes rs table s .state)
   unfolding resume
   resume-valid r v =
-      by-cond (λ (a : Done). Valid (a .state)) (eqb (refusalResume now bytes table) 0) _ _
-      (λ b. by-or-else Valid (load now bytes) s (resumed now rs) (λ e. v) (λ k e. resumed-valid now rs k (load-fits now bytes k e) (not-late now (none-applies rowsResume (omega arith) b .0)) r)) (λ b. v)
+      by-cond (λ (a : Done). Valid (a .state)) (eqb (refusalResume clock bytes table) 0) _ _
+      (λ b. by-or-else Valid (load clock bytes) s (resumed clock rs) (λ e. v) (λ k e. resumed-valid clock rs k (load-fits clock bytes k e) (not-late clock (none-applies rowsResume (omega arith) b .0)) r)) (λ b. v)
 
 -- ---- paying
 
 -- our data with the payment, published under the number after ours
-module _ (now : ℕ) (p : Payment) (s : State) where
-  pub published-midway : Midway now s → among (paymentTlv p) (tlvs (ownData s)) ≡ false → length (ownData s) + length (paymentTlv p) ≤ dataLimit
-      → Midway now (publish now (withTlv (paymentTlv p) (ownData s)) s)
+module _ (clock : ℕ) (p : Payment) (s : State) where
+  pub published-midway : Midway clock s → among (paymentTlv p) (tlvs (ownData s)) ≡ false → length (ownData s) + length (paymentTlv p) ≤ dataLimit
+      → Midway clock (publish clock (withTlv (paymentTlv p) (ownData s)) s)
   unfolding publishAs
   published-midway m n room =
       let g : good dataLimit (ownData s) ≡ true = midway-own s m .fine in
       publish-kept (advance (ownSeq s) 1) (withTlv (paymentTlv p) (ownData s)) (s .peers) s m (advance-fits (ownSeq s) 1)
       (paid-good p (ownData s) (s .peers) (m .links) g n room) (m .peers) (paid-linked p (ownData s) (s .peers) (m .links) g n room)
 
-module _ (now : ℕ) (p : Payment) (rs : List ℕ) (s : State) where
-  pub paid-valid : Midway now s → among (paymentTlv p) (tlvs (ownData s)) ≡ false → length (ownData s) + length (paymentTlv p) ≤ dataLimit → now ≤ lastReading → Valid (paid now p rs s)
+module _ (clock : ℕ) (p : Payment) (rs : List ℕ) (s : State) where
+  pub paid-valid : Midway clock s → among (paymentTlv p) (tlvs (ownData s)) ≡ false → length (ownData s) + length (paymentTlv p) ≤ dataLimit → clock ≤ lastReading → Valid (paid clock p rs s)
   unfolding paid
-  paid-valid m n room l = settle-valid now rs (publish now (withTlv (paymentTlv p) (ownData s)) s) (published-midway now p s m n room) l
+  paid-valid m n room l = settle-valid clock rs (publish clock (withTlv (paymentTlv p) (ownData s)) s) (published-midway clock p s m n room) l
 
-  pub paid-own : paid now p rs s .own ≡ s .own
+  pub paid-own : paid clock p rs s .own ≡ s .own
   unfolding paid publishAs settle
   paid-own = refl
 
-module _ (now : ℕ) (p : Payment) (rs : List ℕ) (table : ℕ) (s : State) where
+module _ (clock : ℕ) (p : Payment) (rs : List ℕ) (table : ℕ) (s : State) where
   abbrev rowsPay : List Row
-  rowsPay = late now ∷ back now s ∷ smallTable table ∷ noHousehold (p .household) ∷ paidAlready p s ∷ full p s ∷ []
+  rowsPay = late clock ∷ back clock s ∷ smallTable table ∷ noHousehold (p .household) ∷ paidAlready p s ∷ full p s ∷ []
 
-  pub pay-valid : Valid s → Valid (pay now p rs table s .state)
+  pub pay-valid : Valid s → Valid (pay clock p rs table s .state)
   unfolding pay
   pay-valid v =
-      by-cond (λ (a : Done). Valid (a .state)) (eqb (refusalPay now p table s) 0) (record { number = 0; state = paid now p rs s }) _
+      by-cond (λ (a : Done). Valid (a .state)) (eqb (refusalPay clock p table s) 0) (record { number = 0; state = paid clock p rs s }) _
       (λ b. accepted (none-applies rowsPay (omega arith) b)) (λ b. v)
     where
-      accepted : All (λ r. r .applies ≡ false) rowsPay → Valid (paid now p rs s)
+      accepted : All (λ r. r .applies ≡ false) rowsPay → Valid (paid clock p rs s)
       accepted a =
-          paid-valid now p rs s (valid-midway now s v (not-back now s (a .1 .0))) (a .1 .1 .1 .1 .0)
-          (ltb-false dataLimit (length (ownData s) + length (paymentTlv p)) (a .1 .1 .1 .1 .1 .0)) (not-late now (a .0))
+          paid-valid clock p rs s (valid-midway clock s v (not-back clock s (a .1 .0))) (a .1 .1 .1 .1 .0)
+          (ltb-false dataLimit (length (ownData s) + length (paymentTlv p)) (a .1 .1 .1 .1 .1 .0)) (not-late clock (a .0))
 
-  pub pay-own : pay now p rs table s .state .own ≡ s .own
+  pub pay-own : pay clock p rs table s .state .own ≡ s .own
   unfolding pay
   pay-own =
-      by-cond (λ (a : Done). a .state .own ≡ s .own) (eqb (refusalPay now p table s) 0) (record { number = 0; state = paid now p rs s }) _ (λ b. paid-own now p rs s) (λ b. refl)
+      by-cond (λ (a : Done). a .state .own ≡ s .own) (eqb (refusalPay clock p table s) 0) (record { number = 0; state = paid clock p rs s }) _ (λ b. paid-own clock p rs s) (λ b. refl)
 
 -- ---- purging: our own node is reachable, and so stays
 
-pub own-reached : (own now : ℕ) (t : List Entry) (e : Entry) → In e t → idOf e ≡ own → inReach own now t own ≡ true
+pub own-reached : (own clock : ℕ) (t : List Entry) (e : Entry) → In e t → idOf e ≡ own → inReach own clock t own ≡ true
 unfolding inReach marked met
-own-reached own now t e m q =
-    any-in (isNode own) v (level0 own (vertices now t) ++ joinAll (levels own (vertices now t)))
-    (in-left v (level0 own (vertices now t)) (joinAll (levels own (vertices now t))) (in-keep (isNode own) v (vertices now t) (in-map _ e t m) b)) b
+own-reached own clock t e m q =
+    any-in (isNode own) v (level0 own (vertices clock t) ++ joinAll (levels own (vertices clock t)))
+    (in-left v (level0 own (vertices clock t)) (joinAll (levels own (vertices clock t))) (in-keep (isNode own) v (vertices clock t) (in-map _ e t m) b)) b
   where
     v : Vertex
-    v = record { says = e .says; young = underAge now e }
+    v = record { says = e .says; young = underAge clock e }
 
     b : isNode own v ≡ true
     b = eq-eqb (e .says .node) own q
 
-module _ (now : ℕ) (s : State) (m : Midway now s) where
+module _ (clock : ℕ) (s : State) (m : Midway clock s) where
   abbrev inside : Entry → Bool
-  inside e = inReach (s .own) now (s .table) (idOf e)
+  inside e = inReach (s .own) clock (s .table) (idOf e)
 
-  reached-held : look (s .own) (reached (s .own) now (s .table)) ≡ some (ownEntry s)
+  reached-held : look (s .own) (reached (s .own) clock (s .table)) ≡ some (ownEntry s)
   unfolding reached look
   reached-held =
       let r : In (ownEntry s) (s .table) × (idOf (ownEntry s) ≡ s .own) = find-some idOf (s .own) (ownEntry s) (s .table) (midway-held s m) in
       find-keep idOf inside (s .own) (ownEntry s) (s .table) (midway-held s m)
-      (rw (r .1) (own-reached (s .own) now (s .table) (ownEntry s) (r .0) (r .1)))
+      (rw (r .1) (own-reached (s .own) clock (s .table) (ownEntry s) (r .0) (r .1)))
 
-  pub reached-kept : Midway now (withTable (reached (s .own) now (s .table)) s)
+  pub reached-kept : Midway clock (withTable (reached (s .own) clock (s .table)) s)
   unfolding reached ownEntry
   reached-kept =
       record {
@@ -200,28 +200,28 @@ module _ (now : ℕ) (s : State) (m : Midway now s) where
           ascending = keep-ascending idOf inside (s .table) (m .table .ascending);
           held = ap isSome reached-held;
           nodes = omega (arith, keep-few inside (s .table), m .table .nodes);
-          entries = all-keep (EntryFits now) inside (s .table) (m .table .entries);
+          entries = all-keep (EntryFits clock) inside (s .table) (m .table .entries);
         };
         peers = m .peers;
         links = subst (λ (x : Option Entry). Linked (orElse x noEntry (λ f. f) .says .nodeData) (s .peers)) (sym reached-held) (m .links);
         endpoints = m .endpoints;
       }
 
-module _ (now : ℕ) (rs : List ℕ) (table : ℕ) (s : State) where
+module _ (clock : ℕ) (rs : List ℕ) (table : ℕ) (s : State) where
   abbrev rowsPurge : List Row
-  rowsPurge = late now ∷ back now s ∷ smallTable table ∷ []
+  rowsPurge = late clock ∷ back clock s ∷ smallTable table ∷ []
 
-  pub purge-valid : Valid s → Valid (purge now rs table s .state)
+  pub purge-valid : Valid s → Valid (purge clock rs table s .state)
   unfolding purge purged
   purge-valid v =
-      by-cond (λ (a : Done). Valid (a .state)) (eqb (refusalPurge now table s) 0) (record { number = 0; state = purged now rs s }) _
+      by-cond (λ (a : Done). Valid (a .state)) (eqb (refusalPurge clock table s) 0) (record { number = 0; state = purged clock rs s }) _
       (λ b. accepted (none-applies rowsPurge (omega arith) b)) (λ b. v)
     where
-      accepted : All (λ r. r .applies ≡ false) rowsPurge → Valid (settle now rs (withTable (reached (s .own) now (s .table)) s))
+      accepted : All (λ r. r .applies ≡ false) rowsPurge → Valid (settle clock rs (withTable (reached (s .own) clock (s .table)) s))
       accepted a =
-          settle-valid now rs (withTable (reached (s .own) now (s .table)) s) (reached-kept now s (valid-midway now s v (not-back now s (a .1 .0)))) (not-late now (a .0))
+          settle-valid clock rs (withTable (reached (s .own) clock (s .table)) s) (reached-kept clock s (valid-midway clock s v (not-back clock s (a .1 .0)))) (not-late clock (a .0))
 
-  pub purge-own : purge now rs table s .state .own ≡ s .own
+  pub purge-own : purge clock rs table s .state .own ≡ s .own
   unfolding purge purged settle
   purge-own =
-      by-cond (λ (a : Done). a .state .own ≡ s .own) (eqb (refusalPurge now table s) 0) (record { number = 0; state = purged now rs s }) _ (λ b. refl) (λ b. refl)
+      by-cond (λ (a : Done). a .state .own ≡ s .own) (eqb (refusalPurge clock table s) 0) (record { number = 0; state = purged clock rs s }) _ (λ b. refl) (λ b. refl)

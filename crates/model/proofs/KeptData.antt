@@ -116,19 +116,19 @@ once-same p q (x ∷ ps) o (inr m) (inl b) e =
     let h : OnePeer x p = one-back p x (subst (λ (y : Peer). OnePeer p y) b e) in no-way (known x ps) (any-in (isPeer (x .node) (x .theirs) (x .ours)) p ps m (is-peer x p h)) (o .0)
 once-same p q (x ∷ ps) o (inr m) (inr n) e = once-same p q ps (o .1) m n e
 
-module _ {own now : ℕ} (ps : List Peer) (h : PeersFit own now ps) where
-  pub peers-new : (p : Peer) → length ps < mostPeers → known p ps ≡ false → PeerFits own now p → PeersFit own now (ps ++ (p ∷ []))
+module _ {own clock : ℕ} (ps : List Peer) (h : PeersFit own clock ps) where
+  pub peers-new : (p : Peer) → length ps < mostPeers → known p ps ≡ false → PeerFits own clock p → PeersFit own clock (ps ++ (p ∷ []))
   peers-new p l n f =
       record {
         few = omega (arith, length-append ps (p ∷ []));
         once = once-new p ps (h .once) n;
-        all = all-append (PeerFits own now) ps (p ∷ []) (h .all) (f, tt);
+        all = all-append (PeerFits own clock) ps (p ∷ []) (h .all) (f, tt);
       }
 
-  pub peers-keep : (f : Peer → Bool) → PeersFit own now (keep f ps)
+  pub peers-keep : (f : Peer → Bool) → PeersFit own clock (keep f ps)
   peers-keep f =
       let l : length ps ≤ mostPeers = h .few in
-      record { few = omega (arith, keep-few f ps); once = once-keep f ps (h .once); all = all-keep (PeerFits own now) f ps (h .all) }
+      record { few = omega (arith, keep-few f ps); once = once-keep f ps (h .once); all = all-keep (PeerFits own clock) f ps (h .all) }
 
 -- ---- a TLV put in its place
 

@@ -34,11 +34,11 @@ none-applies [] n e = tt
 none-applies (r ∷ rs) n e =
     by-test (r .applies) (λ b. absurd (n .0 (eqb-true (r .number) 0 (rw b at e)))) (λ b. (b, none-applies rs (n .1) (rw b at e)))
 
-pub not-late : (now : ℕ) → late now .applies ≡ false → now ≤ lastReading
-not-late now e = ltb-false lastReading now e
+pub not-late : (clock : ℕ) → late clock .applies ≡ false → clock ≤ lastReading
+not-late clock e = ltb-false lastReading clock e
 
-pub not-back : (now : ℕ) (s : State) → back now s .applies ≡ false → s .last ≤ now
-not-back now s e = ltb-false now (s .last) e
+pub not-back : (clock : ℕ) (s : State) → back clock s .applies ≡ false → s .last ≤ clock
+not-back clock s e = ltb-false clock (s .last) e
 
 pub one-to-four : (i : ℕ) → noSuchEndpoint i .applies ≡ false → (1 ≤ i) × (i ≤ 4)
 one-to-four i e =
@@ -62,8 +62,8 @@ module _ {a b : ℕ} (l : a ≤ b) where
   endpoint-later e f = record { trickle = trickle-later (e .trickle) (f .trickle); next = omega (arith, f .next) }
 
 -- into a call, and out of it
-pub valid-midway : (now : ℕ) (s : State) → Valid s → s .last ≤ now → Midway now s
-valid-midway now s v l =
+pub valid-midway : (clock : ℕ) (s : State) → Valid s → s .last ≤ clock → Midway clock s
+valid-midway clock s v l =
     let m : Midway (s .last) s = v .inside in
     record {
       own = m .own;
@@ -71,17 +71,17 @@ valid-midway now s v l =
         ascending = m .table .ascending;
         held = m .table .held;
         nodes = m .table .nodes;
-        entries = all-more (EntryFits (s .last)) (EntryFits now) (entry-later l) (s .table) (m .table .entries);
+        entries = all-more (EntryFits (s .last)) (EntryFits clock) (entry-later l) (s .table) (m .table .entries);
       };
       peers = record {
         few = m .peers .few;
         once = m .peers .once;
-        all = all-more (PeerFits (s .own) (s .last)) (PeerFits (s .own) now) (peer-later l) (s .peers) (m .peers .all);
+        all = all-more (PeerFits (s .own) (s .last)) (PeerFits (s .own) clock) (peer-later l) (s .peers) (m .peers .all);
       };
       links = m .links;
       endpoints = record {
         four = m .endpoints .four;
-        all = all-more (EndpointFits (s .last)) (EndpointFits now) (endpoint-later l) (s .endpoints) (m .endpoints .all);
+        all = all-more (EndpointFits (s .last)) (EndpointFits clock) (endpoint-later l) (s .endpoints) (m .endpoints .all);
       };
     }
 
@@ -91,7 +91,7 @@ pub found : (o : Option Entry) → isSome o ≡ true → o ≡ some (orElse o no
 found none h = no-way false h refl
 found (some e) h = refl
 
-module _ {now : ℕ} (s : State) (m : Midway now s) where
+module _ {clock : ℕ} (s : State) (m : Midway clock s) where
   pub midway-held : look (s .own) (s .table) ≡ some (ownEntry s)
   unfolding ownEntry
   midway-held = found (look (s .own) (s .table)) (m .table .held)
@@ -100,8 +100,8 @@ module _ {now : ℕ} (s : State) (m : Midway now s) where
   unfolding look
   own-in = find-some idOf (s .own) (ownEntry s) (s .table) midway-held
 
-  pub midway-own : EntryFits now (ownEntry s)
-  midway-own = all-in (EntryFits now) (ownEntry s) (s .table) (m .table .entries) (own-in .0)
+  pub midway-own : EntryFits clock (ownEntry s)
+  midway-own = all-in (EntryFits clock) (ownEntry s) (s .table) (m .table .entries) (own-in .0)
 
 module _ (s : State) (v : Valid s) where
   -- our node is in its table
@@ -131,7 +131,7 @@ pub look-other : (n : ℕ) (e : Entry) (t : List Entry) → ¬ (idOf e ≡ n) �
 unfolding look put
 look-other n e t ne = find-other idOf n e t ne
 
-module _ {own now : ℕ} (e : Entry) (t : List Entry) (h : TableFits own now t) where
+module _ {own clock : ℕ} (e : Entry) (t : List Entry) (h : TableFits own clock t) where
   put-held : isSome (look own (put e t)) ≡ true
   put-held =
       by-test (eqb (idOf e) own) (λ b. subst (λ (n : ℕ). isSome (look n (put e t)) ≡ true) (eqb-true (idOf e) own b) (ap isSome (look-put e t)))
@@ -145,23 +145,23 @@ module _ {own now : ℕ} (e : Entry) (t : List Entry) (h : TableFits own now t) 
       (λ b q. let r : In b t × (idOf b ≡ idOf e) = find-some idOf (idOf e) b t q in omega (arith, over-length idOf e b t (h .ascending) (r .0) (r .1)))
 
   -- over an entry of the same node, or where there is room for one more
-  pub put-fits : EntryFits now e → (look (idOf e) t ≡ none → length t < mostNodes) → TableFits own now (put e t)
+  pub put-fits : EntryFits clock e → (look (idOf e) t ≡ none → length t < mostNodes) → TableFits own clock (put e t)
   unfolding put
   put-fits f room =
       record {
         ascending = insert-ascending idOf e t (h .ascending);
         held = put-held;
         nodes = put-nodes room;
-        entries = all-insert (EntryFits now) idOf e t f (h .entries);
+        entries = all-insert (EntryFits clock) idOf e t f (h .entries);
       }
 
 -- a foreign entry
-module _ {now : ℕ} (e : Entry) (s : State) (m : Midway now s) (ne : ¬ (idOf e ≡ s .own)) where
+module _ {clock : ℕ} (e : Entry) (s : State) (m : Midway clock s) (ne : ¬ (idOf e ≡ s .own)) where
   pub foreign-own : ownEntry (withTable (put e (s .table)) s) ≡ ownEntry s
   unfolding ownEntry
   foreign-own = rw (look-other (s .own) e (s .table) ne)
 
-  pub foreign-kept : EntryFits now e → (look (idOf e) (s .table) ≡ none → length (s .table) < mostNodes) → Midway now (withTable (put e (s .table)) s)
+  pub foreign-kept : EntryFits clock e → (look (idOf e) (s .table) ≡ none → length (s .table) < mostNodes) → Midway clock (withTable (put e (s .table)) s)
   foreign-kept f room =
       record {
         own = m .own;
@@ -172,15 +172,15 @@ module _ {now : ℕ} (e : Entry) (s : State) (m : Midway now s) (ne : ¬ (idOf e
       }
 
 -- our own entry, published, with the peers that its data names
-module _ {now : ℕ} (n : ℕ) (d : List ℕ) (ps : List Peer) (s : State) where
-  pub published-own : ownEntry (withPeers ps (publishAs now n d s)) ≡ entryOf (s .own) n d 0 now
+module _ {clock : ℕ} (n : ℕ) (d : List ℕ) (ps : List Peer) (s : State) where
+  pub published-own : ownEntry (withPeers ps (publishAs clock n d s)) ≡ entryOf (s .own) n d 0 clock
   unfolding ownEntry publishAs
-  published-own = rw (look-put (entryOf (s .own) n d 0 now) (s .table))
+  published-own = rw (look-put (entryOf (s .own) n d 0 clock) (s .table))
 
-  pub publish-kept : Midway now s → n < circle → good dataLimit d ≡ true → PeersFit (s .own) now ps → Linked d ps → Midway now (withPeers ps (publishAs now n d s))
+  pub publish-kept : Midway clock s → n < circle → good dataLimit d ≡ true → PeersFit (s .own) clock ps → Linked d ps → Midway clock (withPeers ps (publishAs clock n d s))
   unfolding publishAs
   publish-kept m l g p k =
-      let e : Entry = entryOf (s .own) n d 0 now in
+      let e : Entry = entryOf (s .own) n d 0 clock in
       record {
         own = m .own;
         table = put-fits e (s .table) (m .table) (record { node = m .own; seq = l; fine = g; age = omega arith; since = omega arith })
@@ -191,7 +191,7 @@ module _ {now : ℕ} (n : ℕ) (d : List ℕ) (ps : List Peer) (s : State) where
       }
 
 -- the same data, under another number
-pub republish-kept : {now : ℕ} (n : ℕ) (s : State) → Midway now s → n < circle → Midway now (publishAs now n (ownData s) s)
+pub republish-kept : {clock : ℕ} (n : ℕ) (s : State) → Midway clock s → n < circle → Midway clock (publishAs clock n (ownData s) s)
 unfolding publishAs
 republish-kept n s m l = publish-kept n (ownData s) (s .peers) s m l (midway-own s m .fine) (m .peers) (m .links)
 
@@ -201,45 +201,45 @@ advance-fits n k = omega arith
 
 -- ---- peers touched
 
-module _ (n theirs ours now : ℕ) where
-  contacted-tlv : (p : Peer) → peerTlv (contacted n theirs ours now p) ≡ peerTlv p
+module _ (n theirs ours clock : ℕ) where
+  contacted-tlv : (p : Peer) → peerTlv (contacted n theirs ours clock p) ≡ peerTlv p
   unfolding peerTlv
   contacted-tlv p = by-test (isPeer n theirs ours p) (λ b. rw b) (λ b. rw b)
 
-  contacted-tlvs : (ps : List Peer) → map peerTlv (map (contacted n theirs ours now) ps) ≡ map peerTlv ps
+  contacted-tlvs : (ps : List Peer) → map peerTlv (map (contacted n theirs ours clock) ps) ≡ map peerTlv ps
   contacted-tlvs [] = refl
   contacted-tlvs (p ∷ ps) = rw (contacted-tlv p, contacted-tlvs ps)
 
-  contacted-is : (a b c : ℕ) (p : Peer) → isPeer a b c (contacted n theirs ours now p) ≡ isPeer a b c p
+  contacted-is : (a b c : ℕ) (p : Peer) → isPeer a b c (contacted n theirs ours clock p) ≡ isPeer a b c p
   contacted-is a b c p = by-test (isPeer n theirs ours p) (λ t. rw t) (λ t. rw t)
 
-  contacted-any : (a b c : ℕ) (ps : List Peer) → any (isPeer a b c) (map (contacted n theirs ours now) ps) ≡ any (isPeer a b c) ps
+  contacted-any : (a b c : ℕ) (ps : List Peer) → any (isPeer a b c) (map (contacted n theirs ours clock) ps) ≡ any (isPeer a b c) ps
   contacted-any a b c [] = refl
   contacted-any a b c (p ∷ ps) = rw (contacted-is a b c p, contacted-any a b c ps)
 
-  contacted-once : (ps : List Peer) → Once ps → Once (map (contacted n theirs ours now) ps)
+  contacted-once : (ps : List Peer) → Once ps → Once (map (contacted n theirs ours clock) ps)
   contacted-once [] o = tt
   contacted-once (p ∷ ps) o =
-      let a : any (isPeer (p .node) (p .theirs) (p .ours)) (map (contacted n theirs ours now) ps) ≡ false = contacted-any (p .node) (p .theirs) (p .ours) ps ∙ o .0 in
-      let k : Once (map (contacted n theirs ours now) ps) = contacted-once ps (o .1) in
+      let a : any (isPeer (p .node) (p .theirs) (p .ours)) (map (contacted n theirs ours clock) ps) ≡ false = contacted-any (p .node) (p .theirs) (p .ours) ps ∙ o .0 in
+      let k : Once (map (contacted n theirs ours clock) ps) = contacted-once ps (o .1) in
       by-test (isPeer n theirs ours p) (λ t. rw t (a, k)) (λ t. rw t (a, k))
 
-  contacted-fits : (own : ℕ) (p : Peer) → PeerFits own now p → PeerFits own now (contacted n theirs ours now p)
+  contacted-fits : (own : ℕ) (p : Peer) → PeerFits own clock p → PeerFits own clock (contacted n theirs ours clock p)
   contacted-fits own p f =
       by-test (isPeer n theirs ours p)
       (λ t. rw t (record { node = f .node; theirs = f .theirs; first = f .first; fourth = f .fourth; foreign = f .foreign; contact = omega arith }))
       (λ t. rw t f)
 
-  pub touch-kept : (s : State) → Midway now s → Midway now (withPeers (map (contacted n theirs ours now) (s .peers)) s)
+  pub touch-kept : (s : State) → Midway clock s → Midway clock (withPeers (map (contacted n theirs ours clock) (s .peers)) s)
   unfolding ownEntry
   touch-kept s m =
       record {
         own = m .own;
         table = m .table;
         peers = record {
-          few = rw (length-map (s .peers) (contacted n theirs ours now)) (m .peers .few);
+          few = rw (length-map (s .peers) (contacted n theirs ours clock)) (m .peers .few);
           once = contacted-once (s .peers) (m .peers .once);
-          all = all-map (PeerFits (s .own) now) (contacted n theirs ours now) (contacted-fits (s .own)) (s .peers) (m .peers .all);
+          all = all-map (PeerFits (s .own) clock) (contacted n theirs ours clock) (contacted-fits (s .own)) (s .peers) (m .peers .all);
         };
         links = rw (contacted-tlvs (s .peers)) (m .links);
         endpoints = m .endpoints;
@@ -247,11 +247,11 @@ module _ (n theirs ours now : ℕ) where
 
 -- ---- an endpoint set
 
-module _ {now : ℕ} (i : ℕ) (low : 1 ≤ i) (high : i ≤ 4) (s : State) (m : Midway now s) where
-  pub endpoint-fits : EndpointFits now (endpointAt i s)
-  endpoint-fits = all-at (EndpointFits now) noEndpoint (s .endpoints) (pred i) (m .endpoints .all) (omega (arith, m .endpoints .four))
+module _ {clock : ℕ} (i : ℕ) (low : 1 ≤ i) (high : i ≤ 4) (s : State) (m : Midway clock s) where
+  pub endpoint-fits : EndpointFits clock (endpointAt i s)
+  endpoint-fits = all-at (EndpointFits clock) noEndpoint (s .endpoints) (pred i) (m .endpoints .all) (omega (arith, m .endpoints .four))
 
-  pub endpoint-kept : (e : Endpoint) → EndpointFits now e → Midway now (withEndpoint i e s)
+  pub endpoint-kept : (e : Endpoint) → EndpointFits clock e → Midway clock (withEndpoint i e s)
   unfolding ownEntry
   endpoint-kept e f =
       record {
@@ -259,7 +259,7 @@ module _ {now : ℕ} (i : ℕ) (low : 1 ≤ i) (high : i ≤ 4) (s : State) (m :
         table = m .table;
         peers = m .peers;
         links = m .links;
-        endpoints = record { four = length-set (s .endpoints) (pred i) e ∙ m .endpoints .four; all = all-set (EndpointFits now) (s .endpoints) (pred i) e (m .endpoints .all) f };
+        endpoints = record { four = length-set (s .endpoints) (pred i) e ∙ m .endpoints .four; all = all-set (EndpointFits clock) (s .endpoints) (pred i) e (m .endpoints .all) f };
       }
 
 -- ---- Trickle
@@ -276,55 +276,55 @@ interval-doubled n h =
     let r = in-any (eqb (min (n * 2) greatestInterval)) intervals (all-in (λ m. any (eqb (min (m * 2) greatestInterval)) intervals ≡ true) n intervals doubled h) in
     rw (eqb-true (min (n * 2) greatestInterval) (r .0) (r .2)) (r .1)
 
-pub fresh-fits : (now interval random : ℕ) → In interval intervals → TrickleFits now (fresh now interval random)
+pub fresh-fits : (clock interval random : ℕ) → In interval intervals → TrickleFits clock (fresh clock interval random)
 unfolding fresh
-fresh-fits now i r h =
+fresh-fits clock i r h =
     let l : leastInterval ≤ i = interval-least i h in
     let m : r % (i / 2) < i / 2 = mod-lt r (omega arith) in
     record { interval = h; low = omega arith; high = omega arith; count = omega arith; start = omega arith }
 
-pub hear-fits : (now : ℕ) (t : Trickle) → TrickleFits now t → TrickleFits now (hear t)
+pub hear-fits : (clock : ℕ) (t : Trickle) → TrickleFits clock t → TrickleFits clock (hear t)
 unfolding hear
-hear-fits now t f = record { interval = f .interval; low = f .low; high = f .high; count = omega arith; start = f .start }
+hear-fits clock t f = record { interval = f .interval; low = f .low; high = f .high; count = omega arith; start = f .start }
 
-spend-fits : (now : ℕ) (t : Trickle) → TrickleFits now t → TrickleFits now (spend t)
+spend-fits : (clock : ℕ) (t : Trickle) → TrickleFits clock t → TrickleFits clock (spend t)
 unfolding spend
-spend-fits now t f = record { interval = f .interval; low = f .low; high = f .high; count = f .count; start = f .start }
+spend-fits clock t f = record { interval = f .interval; low = f .low; high = f .high; count = f .count; start = f .start }
 
-reset-fits : (now random : ℕ) (t : Trickle) → TrickleFits now t → TrickleFits now (reset now random t)
+reset-fits : (clock random : ℕ) (t : Trickle) → TrickleFits clock t → TrickleFits clock (reset clock random t)
 unfolding reset
-reset-fits now r t f = by-test (ltb leastInterval (t .interval)) (λ b. rw b (fresh-fits now leastInterval r (inl refl))) (λ b. rw b f)
+reset-fits clock r t f = by-test (ltb leastInterval (t .interval)) (λ b. rw b (fresh-fits clock leastInterval r (inl refl))) (λ b. rw b f)
 
-pub event-fits : (now random : ℕ) (t : Trickle) → TrickleFits now t → TrickleFits now (event now random t .next)
+pub event-fits : (clock random : ℕ) (t : Trickle) → TrickleFits clock t → TrickleFits clock (event clock random t .next)
 unfolding event
-event-fits now r t f =
-    by-test (pointDue now t) (λ b. rw b (spend-fits now t f))
-    (λ b. by-test (intervalOver now t) (λ q. rw (b, q) (fresh-fits now (min (t .interval * 2) greatestInterval) r (interval-doubled (t .interval) (f .interval))))
+event-fits clock r t f =
+    by-test (pointDue clock t) (λ b. rw b (spend-fits clock t f))
+    (λ b. by-test (intervalOver clock t) (λ q. rw (b, q) (fresh-fits clock (min (t .interval * 2) greatestInterval) r (interval-doubled (t .interval) (f .interval))))
     (λ q. rw (b, q) f))
 
-pub with-trickle : (now : ℕ) (t : Trickle) (e : Endpoint) → EndpointFits now e → TrickleFits now t → EndpointFits now (withTrickle t e)
-with-trickle now t e f g = record { trickle = g; next = f .next }
+pub with-trickle : (clock : ℕ) (t : Trickle) (e : Endpoint) → EndpointFits clock e → TrickleFits clock t → EndpointFits clock (withTrickle t e)
+with-trickle clock t e f g = record { trickle = g; next = f .next }
 
 -- ---- a reading taken
 
-module _ (now : ℕ) where
-  resets-length : (rs : List ℕ) (es : List Endpoint) → length (resetAll now rs es) ≡ length es
+module _ (clock : ℕ) where
+  resets-length : (rs : List ℕ) (es : List Endpoint) → length (resetAll clock rs es) ≡ length es
   unfolding resetAll
   resets-length rs [] = refl
   resets-length [] (e ∷ es) = refl
   resets-length (r ∷ rs) (e ∷ es) = ap suc (resets-length rs es)
 
-  resets-fit : (rs : List ℕ) (es : List Endpoint) → All (EndpointFits now) es → All (EndpointFits now) (resetAll now rs es)
+  resets-fit : (rs : List ℕ) (es : List Endpoint) → All (EndpointFits clock) es → All (EndpointFits clock) (resetAll clock rs es)
   unfolding resetAll
   resets-fit rs [] h = tt
   resets-fit [] (e ∷ es) h = h
-  resets-fit (r ∷ rs) (e ∷ es) h = (with-trickle now (reset now r (e .trickle)) e (h .0) (reset-fits now r (e .trickle) (h .0 .trickle)), resets-fit rs es (h .1))
+  resets-fit (r ∷ rs) (e ∷ es) h = (with-trickle clock (reset clock r (e .trickle)) e (h .0) (reset-fits clock r (e .trickle) (h .0 .trickle)), resets-fit rs es (h .1))
 
-  pub settle-own : (rs : List ℕ) (s : State) → settle now rs s .own ≡ s .own
+  pub settle-own : (rs : List ℕ) (s : State) → settle clock rs s .own ≡ s .own
   unfolding settle
   settle-own rs s = refl
 
-  pub settle-midway : (rs : List ℕ) (s : State) → Midway now s → Midway now (settle now rs s)
+  pub settle-midway : (rs : List ℕ) (s : State) → Midway clock s → Midway clock (settle clock rs s)
   unfolding settle ownEntry
   settle-midway rs s m =
       record {
@@ -332,10 +332,10 @@ module _ (now : ℕ) where
         table = m .table;
         peers = m .peers;
         links = m .links;
-        endpoints = by-test (same (s .digest) (networkDigest (s .own) now (s .table))) (λ b. rw b (m .endpoints))
+        endpoints = by-test (same (s .digest) (networkDigest (s .own) clock (s .table))) (λ b. rw b (m .endpoints))
             (λ b. rw b (record { four = resets-length rs (s .endpoints) ∙ m .endpoints .four; all = resets-fit rs (s .endpoints) (m .endpoints .all) }));
       }
 
-  pub settle-valid : (rs : List ℕ) (s : State) → Midway now s → now ≤ lastReading → Valid (settle now rs s)
+  pub settle-valid : (rs : List ℕ) (s : State) → Midway clock s → clock ≤ lastReading → Valid (settle clock rs s)
   unfolding settle
   settle-valid rs s m l = record { inside = settle-midway rs s m; last = l; digest = refl }

@@ -46,73 +46,73 @@ unfolding receivedOf
 received-numbers v h = record { node = u32-small v 0 h; seq = u32-small v 4 h; age = omega (arith, u32-small v 8 h) }
 
 -- the entry e is about the node, fits, and has room in the table t
-pub record Taken (now : ℕ) (t : List Entry) (r : Received) (e : Entry) : Type 0 where
+pub record Taken (clock : ℕ) (t : List Entry) (r : Received) (e : Entry) : Type 0 where
   pub node : idOf e ≡ r .node
-  pub fits : EntryFits now e
+  pub fits : EntryFits clock e
   pub room : look (idOf e) t ≡ none → length t < mostNodes
 
 abbrev pub Takes : ℕ → List Entry → Received → Decision → Type 0
-Takes now t r Decision.ignored = Unit {0}
-Takes now t r (Decision.ask n) = Unit {0}
-Takes now t r (Decision.takeNumber e) = Taken now t r e
-Takes now t r (Decision.takeAll e) = Taken now t r e
-Takes now t r Decision.dropped = Unit {0}
+Takes clock t r Decision.ignored = Unit {0}
+Takes clock t r (Decision.ask n) = Unit {0}
+Takes clock t r (Decision.takeNumber e) = Taken clock t r e
+Takes clock t r (Decision.takeAll e) = Taken clock t r e
+Takes clock t r Decision.dropped = Unit {0}
 
-module _ (now : ℕ) (t : List Entry) (r : Received) (n : Numbers r) where
-  taken-fits : (d : List ℕ) → good dataLimit d ≡ true → (look (r .node) t ≡ none → length t < mostNodes) → Taken now t r (taken now r d)
+module _ (clock : ℕ) (t : List Entry) (r : Received) (n : Numbers r) where
+  taken-fits : (d : List ℕ) → good dataLimit d ≡ true → (look (r .node) t ≡ none → length t < mostNodes) → Taken clock t r (taken clock r d)
   taken-fits d g room =
       record { node = refl; fits = record { node = n .node; seq = n .seq; fine = g; age = n .age; since = omega arith }; room = room }
 
-  with-data : (d : List ℕ) → (look (r .node) t ≡ none → length t < mostNodes) → Takes now t r (withData now r d)
+  with-data : (d : List ℕ) → (look (r .node) t ≡ none → length t < mostNodes) → Takes clock t r (withData clock r d)
   unfolding withData
   with-data d room =
-      by-cond (Takes now t r) (good dataLimit d && same (hash16 d) (r .hash)) (Decision.takeAll (taken now r d)) Decision.ignored
+      by-cond (Takes clock t r) (good dataLimit d && same (hash16 d) (r .hash)) (Decision.takeAll (taken clock r d)) Decision.ignored
       (λ b. taken-fits d (and-left _ _ b) room) (λ b. tt)
 
-  wanted-new : length t < mostNodes → Takes now t r (wantedNew now r)
+  wanted-new : length t < mostNodes → Takes clock t r (wantedNew clock r)
   unfolding wantedNew
-  wanted-new l = by-or-else (Takes now t r) (r .carried) (Decision.ask (r .node)) (withData now r) (λ e. tt) (λ d e. with-data d (λ q. l))
+  wanted-new l = by-or-else (Takes clock t r) (r .carried) (Decision.ask (r .node)) (withData clock r) (λ e. tt) (λ d e. with-data d (λ q. l))
 
-  module _ (e : Entry) (q : look (r .node) t ≡ some e) (h : All (EntryFits now) t) where
+  module _ (e : Entry) (q : look (r .node) t ≡ some e) (h : All (EntryFits clock) t) where
     there : look (r .node) t ≡ none → length t < mostNodes
     there z = let y : _≡_ {A = ℕ} 0 1 = cc in absurd (omega arith)
 
-    held-fits : EntryFits now e
+    held-fits : EntryFits clock e
     unfolding look
-    held-fits = all-in (EntryFits now) e t h (find-some idOf (r .node) e t q .0)
+    held-fits = all-in (EntryFits clock) e t h (find-some idOf (r .node) e t q .0)
 
-    without-data : Takes now t r (withoutData now r e)
+    without-data : Takes clock t r (withoutData clock r e)
     unfolding withoutData
     without-data =
-        by-cond (Takes now t r) (same (hash16 (e .says .nodeData)) (r .hash)) (Decision.takeNumber (taken now r (e .says .nodeData))) (Decision.ask (r .node))
+        by-cond (Takes clock t r) (same (hash16 (e .says .nodeData)) (r .hash)) (Decision.takeNumber (taken clock r (e .says .nodeData))) (Decision.ask (r .node))
         (λ b. taken-fits (e .says .nodeData) (held-fits .fine) there) (λ b. tt)
 
-    wanted-held : Takes now t r (wantedHeld now r e)
+    wanted-held : Takes clock t r (wantedHeld clock r e)
     unfolding wantedHeld
-    wanted-held = by-or-else (Takes now t r) (r .carried) (withoutData now r e) (withData now r) (λ b. without-data) (λ d b. with-data d there)
+    wanted-held = by-or-else (Takes clock t r) (r .carried) (withoutData clock r e) (withData clock r) (λ b. without-data) (λ d b. with-data d there)
 
-  pub decide-takes : All (EntryFits now) t → Takes now t r (decide now t r)
+  pub decide-takes : All (EntryFits clock) t → Takes clock t r (decide clock t r)
   unfolding decide
   decide-takes h =
-      by-or-else (Takes now t r) (look (r .node) t) (cond (leb mostNodes (length t)) Decision.dropped (wantedNew now r))
-      (λ e. cond (differs e r) (wantedHeld now r e) Decision.ignored)
-      (λ q. by-cond (Takes now t r) (leb mostNodes (length t)) Decision.dropped (wantedNew now r) (λ b. tt) (λ b. wanted-new (leb-false mostNodes (length t) b)))
-      (λ e q. by-cond (Takes now t r) (differs e r) (wantedHeld now r e) Decision.ignored (λ b. wanted-held e q h) (λ b. tt))
+      by-or-else (Takes clock t r) (look (r .node) t) (cond (leb mostNodes (length t)) Decision.dropped (wantedNew clock r))
+      (λ e. cond (differs e r) (wantedHeld clock r e) Decision.ignored)
+      (λ q. by-cond (Takes clock t r) (leb mostNodes (length t)) Decision.dropped (wantedNew clock r) (λ b. tt) (λ b. wanted-new (leb-false mostNodes (length t) b)))
+      (λ e q. by-cond (Takes clock t r) (differs e r) (wantedHeld clock r e) Decision.ignored (λ b. wanted-held e q h) (λ b. tt))
 
 -- the table after a decision
-after-kept : (now : ℕ) (r : Received) (s : State) → Midway now s → ¬ (r .node ≡ s .own) → (d : Decision) → Takes now (s .table) r d → Midway now (withTable (after d (s .table)) s)
+after-kept : (clock : ℕ) (r : Received) (s : State) → Midway clock s → ¬ (r .node ≡ s .own) → (d : Decision) → Takes clock (s .table) r d → Midway clock (withTable (after d (s .table)) s)
 unfolding after
-after-kept now r s m ne Decision.ignored k = m
-after-kept now r s m ne (Decision.ask n) k = m
-after-kept now r s m ne (Decision.takeNumber e) k = foreign-kept e s m (λ q. ne (sym (k .node) ∙ q)) (k .fits) (k .room)
-after-kept now r s m ne (Decision.takeAll e) k = foreign-kept e s m (λ q. ne (sym (k .node) ∙ q)) (k .fits) (k .room)
-after-kept now r s m ne Decision.dropped k = m
+after-kept clock r s m ne Decision.ignored k = m
+after-kept clock r s m ne (Decision.ask n) k = m
+after-kept clock r s m ne (Decision.takeNumber e) k = foreign-kept e s m (λ q. ne (sym (k .node) ∙ q)) (k .fits) (k .room)
+after-kept clock r s m ne (Decision.takeAll e) k = foreign-kept e s m (λ q. ne (sym (k .node) ∙ q)) (k .fits) (k .room)
+after-kept clock r s m ne Decision.dropped k = m
 
 -- ---- the steps keep the invariant
 
-pub add-kept : (now : ℕ) (p : Peer) (s : State) → Midway now s → PeerFits (s .own) now p → known p (s .peers) ≡ false → roomForPeer s ≡ true → Midway now (addPeer now p s)
+pub add-kept : (clock : ℕ) (p : Peer) (s : State) → Midway clock s → PeerFits (s .own) clock p → known p (s .peers) ≡ false → roomForPeer s ≡ true → Midway clock (addPeer clock p s)
 unfolding addPeer
-add-kept now p s m f u b =
+add-kept clock p s m f u b =
     let few : length (s .peers) < mostPeers = ltb-true (length (s .peers)) mostPeers (and-left _ _ b) in
     let room : length (ownData s) + peerBytes ≤ dataLimit = leb-true (length (ownData s) + peerBytes) dataLimit (and-right (ltb (length (s .peers)) mostPeers) _ b) in
     let g : good dataLimit (ownData s) ≡ true = midway-own s m .fine in
@@ -122,20 +122,20 @@ add-kept now p s m f u b =
     (peer-linked p (ownData s) (s .peers) (m .links) u g room)
 
 module _ (c : Context) (low : 1 ≤ c .endpoint) (high : c .endpoint ≤ 4) where
-  pub steps-kept : (v : List ℕ) → Bytes v → Steps c (Midway (c .now)) v
+  pub steps-kept : (v : List ℕ) → Bytes v → Steps c (Midway (c .clock)) v
   steps-kept v h =
       record {
-        asks = λ s m. endpoint-kept (c .endpoint) low high s m (withNext (c .now + requestGap) (endpointAt (c .endpoint) s))
+        asks = λ s m. endpoint-kept (c .endpoint) low high s m (withNext (c .clock + requestGap) (endpointAt (c .endpoint) s))
             (record { trickle = endpoint-fits (c .endpoint) low high s m .trickle; next = omega arith });
-        touches = λ f s m. touch-kept (f .node) (f .endpoint) (c .endpoint) (c .now) s m;
-        hears = λ s m. let e : EndpointFits (c .now) (endpointAt (c .endpoint) s) = endpoint-fits (c .endpoint) low high s m in
+        touches = λ f s m. touch-kept (f .node) (f .endpoint) (c .endpoint) (c .clock) s m;
+        hears = λ s m. let e : EndpointFits (c .clock) (endpointAt (c .endpoint) s) = endpoint-fits (c .endpoint) low high s m in
             endpoint-kept (c .endpoint) low high s m (withTrickle (hear (endpointAt (c .endpoint) s .trickle)) (endpointAt (c .endpoint) s))
-            (with-trickle (c .now) (hear (endpointAt (c .endpoint) s .trickle)) (endpointAt (c .endpoint) s) e (hear-fits (c .now) (endpointAt (c .endpoint) s .trickle) (e .trickle)));
-        greets = λ s ne u b m. add-kept (c .now) (newPeer c (senderIn v)) s m
+            (with-trickle (c .clock) (hear (endpointAt (c .endpoint) s .trickle)) (endpointAt (c .endpoint) s) e (hear-fits (c .clock) (endpointAt (c .endpoint) s .trickle) (e .trickle)));
+        greets = λ s ne u b m. add-kept (c .clock) (newPeer c (senderIn v)) s m
             (record { node = u32-small v 0 h; theirs = u32-small v 4 h; first = low; fourth = high; foreign = ne; contact = omega arith }) u b;
         reclaims = λ s m. republish-kept (advance (receivedOf v .seq) reclaimStep) s m (advance-fits (receivedOf v .seq) reclaimStep);
-        takes = λ s ne m. after-kept (c .now) (receivedOf v) s m ne (decide (c .now) (s .table) (receivedOf v))
-            (decide-takes (c .now) (s .table) (receivedOf v) (received-numbers v h) (m .table .entries));
+        takes = λ s ne m. after-kept (c .clock) (receivedOf v) s m ne (decide (c .clock) (s .table) (receivedOf v))
+            (decide-takes (c .clock) (s .table) (receivedOf v) (received-numbers v h) (m .table .entries));
       }
 
 -- ---- a datagram
@@ -144,15 +144,15 @@ value-bytes : (t : List ℕ) → Bytes t → Bytes (valueOf t)
 unfolding valueOf
 value-bytes t h = bytes-take (lengthOf t) (drop 4 t) (bytes-drop 4 t h)
 
-pub handled-kept : (c : Call) (s : State) → 1 ≤ c .endpoint → c .endpoint ≤ 4 → Bytes (c .datagram) → Midway (c .now) s → Midway (c .now) (handled s c .state)
+pub handled-kept : (c : Call) (s : State) → 1 ≤ c .endpoint → c .endpoint ≤ 4 → Bytes (c .datagram) → Midway (c .clock) s → Midway (c .clock) (handled s c .state)
 unfolding handled
 handled-kept c s low high h m =
-    all-hold (contextOf s c) (Midway (c .now)) (tlvs (c .datagram)) (startOf s)
-    (in-all (λ t. Steps (contextOf s c) (Midway (c .now)) (valueOf t)) (tlvs (c .datagram)) (λ t k. steps-kept (contextOf s c) low high (valueOf t) (value-bytes t (tlvs-bytes (c .datagram) t h k)))) m
+    all-hold (contextOf s c) (Midway (c .clock)) (tlvs (c .datagram)) (startOf s)
+    (in-all (λ t. Steps (contextOf s c) (Midway (c .clock)) (valueOf t)) (tlvs (c .datagram)) (λ t k. steps-kept (contextOf s c) low high (valueOf t) (value-bytes t (tlvs-bytes (c .datagram) t h k)))) m
 
 abbrev rows : Call → State → List Row
 rows c s =
-    late (c .now) ∷ back (c .now) s ∷ noSuchEndpoint (c .endpoint) ∷ smallRoom (c .table) (c .room) mostBytes ∷ long (c .datagram) ∷ noRow (c .datagram)
+    late (c .clock) ∷ back (c .clock) s ∷ noSuchEndpoint (c .endpoint) ∷ smallRoom (c .table) (c .room) mostBytes ∷ long (c .datagram) ∷ noRow (c .datagram)
     ∷ []
 
 pub receive-valid : (c : Call) (s : State) → Bytes (c .datagram) → Valid s → Valid (receive c s .state)
@@ -161,12 +161,12 @@ receive-valid c s h v =
     by-cond (λ (a : Answer). Valid (a .state)) (eqb (refusalReceive c s) 0) (answered c (handled s c)) _
     (λ b. accepted (none-applies (rows c s) (omega arith) b)) (λ b. v)
   where
-    accepted : All (λ r. r .applies ≡ false) (rows c s) → Valid (settle (c .now) (c .randoms) (handled s c .state))
+    accepted : All (λ r. r .applies ≡ false) (rows c s) → Valid (settle (c .clock) (c .randoms) (handled s c .state))
     accepted a =
         let i : (1 ≤ c .endpoint) × (c .endpoint ≤ 4) = one-to-four (c .endpoint) (a .1 .1 .0) in
-        settle-valid (c .now) (c .randoms) (handled s c .state)
-        (handled-kept c s (i .0) (i .1) h (valid-midway (c .now) s v (not-back (c .now) s (a .1 .0))))
-        (not-late (c .now) (a .0))
+        settle-valid (c .clock) (c .randoms) (handled s c .state)
+        (handled-kept c s (i .0) (i .1) h (valid-midway (c .clock) s v (not-back (c .clock) s (a .1 .0))))
+        (not-late (c .clock) (a .0))
 
 -- ---- our identifier stays
 
@@ -181,4 +181,4 @@ pub receive-own : (c : Call) (s : State) → receive c s .state .own ≡ s .own
 unfolding receive handled
 receive-own c s =
     by-cond (λ (a : Answer). a .state .own ≡ s .own) (eqb (refusalReceive c s) 0) (answered c (handled s c)) _
-    (λ b. settle-own (c .now) (c .randoms) (handled s c .state) ∙ handled-own (contextOf s c) (tlvs (c .datagram)) (startOf s)) (λ b. refl)
+    (λ b. settle-own (c .clock) (c .randoms) (handled s c .state) ∙ handled-own (contextOf s c) (tlvs (c .datagram)) (startOf s)) (λ b. refl)

@@ -17,7 +17,7 @@ use Rattle.model.specs.State.{State, withTable, ownEntry, ownData, publi
 use Rattle.model.specs.Messages.{requestNetworkTlv, requestNodeTlv, networkTlv, shortState, wholeState}
 use Rattle.model.specs.Decide.{Decision, receivedOf, differs, decide, after}
 use Rattle.base.proofs.Options.{by-cond, by-or-else}
-use Rattle.model.specs.Handle.{Context, Sender, Work, withState, withSender, withOut, omitOne, dropOne, fits, piece, reply, replies, mayAsk, hasAsked, askNetwork, touchBy, touch, digestNow, reachedNow, onRequestNetwork, onRequestNode, newPeer, roomForPeer, addPeer, greet, knows, onStranger, onEndpoint, heard, onEqual, onNetwork, onOwnState, carryOut, onState, atLeast, onTlv, oneTlv, allTlvs}
+use Rattle.model.specs.Handle.{Context, Sender, Work, withState, withSender, withOut, omitOne, dropOne, fits, piece, reply, replies, mayAsk, hasAsked, askNetwork, touchBy, touch, digestNow, reachedNow, onRequestNetwork, onRequestNode, newPeer, roomForPeer, addPeer, greet, knows, onStranger, onEndpoint, countEqual, onEqual, onNetwork, onOwnState, carryOut, onState, atLeast, onTlv, oneTlv, allTlvs}
 
 -- ---- a reply leaves the state alone
 
@@ -47,10 +47,10 @@ senderIn v = record { node = u32At v 0; endpoint = u32At v 4 }
 pub record Steps (c : Context) (P : State → Type 0) (v : List ℕ) : Type 0 where
   pub asks : (s : State) → P s → P (hasAsked c s)
   pub touches : (f : Sender) (s : State) → P s → P (touchBy c f s)
-  pub hears : (s : State) → P s → P (heard c s)
-  pub greets : (s : State) → ¬ (u32At v 0 ≡ s .own) → knows c (senderIn v) s ≡ false → roomForPeer s ≡ true → P s → P (addPeer (c .now) (newPeer c (senderIn v)) s)
-  pub reclaims : (s : State) → P s → P (publishAs (c .now) (advance (receivedOf v .seq) reclaimStep) (ownData s) s)
-  pub takes : (s : State) → ¬ (receivedOf v .node ≡ s .own) → P s → P (withTable (after (decide (c .now) (s .table) (receivedOf v)) (s .table)) s)
+  pub hears : (s : State) → P s → P (countEqual c s)
+  pub greets : (s : State) → ¬ (u32At v 0 ≡ s .own) → knows c (senderIn v) s ≡ false → roomForPeer s ≡ true → P s → P (addPeer (c .clock) (newPeer c (senderIn v)) s)
+  pub reclaims : (s : State) → P s → P (publishAs (c .clock) (advance (receivedOf v .seq) reclaimStep) (ownData s) s)
+  pub takes : (s : State) → ¬ (receivedOf v .node ≡ s .own) → P s → P (withTable (after (decide (c .clock) (s .table) (receivedOf v)) (s .table)) s)
 
 abbrev Holds : (State → Type 0) → Work → Type 0
 Holds P w = P (w .state)
@@ -72,19 +72,19 @@ module _ (c : Context) (P : State → Type 0) (v : List ℕ) (k : Steps c P v) w
 
   request-holds : (w : Work) → Holds P w → Holds P (onRequestNetwork c w)
   unfolding onRequestNetwork
-  request-holds w h = rw (replies-state c (networkTlv (digestNow c w) ∷ map (shortState (c .now)) (reachedNow c w)) w) h
+  request-holds w h = rw (replies-state c (networkTlv (digestNow c w) ∷ map (shortState (c .clock)) (reachedNow c w)) w) h
 
   node-holds : (n : ℕ) (w : Work) → Holds P w → Holds P (onRequestNode c n w)
   unfolding onRequestNode
   node-holds n w h =
-      by-cond (Holds P) (inReach (w .state .own) (c .now) (w .state .table) n) _ w
-      (λ b. by-or-else (Holds P) (look n (w .state .table)) w (λ e. reply c (wholeState (c .now) e) w) (λ e. h) (λ e q. reply-holds (wholeState (c .now) e) w h))
+      by-cond (Holds P) (inReach (w .state .own) (c .clock) (w .state .table) n) _ w
+      (λ b. by-or-else (Holds P) (look n (w .state .table)) w (λ e. reply c (wholeState (c .clock) e) w) (λ e. h) (λ e q. reply-holds (wholeState (c .clock) e) w h))
       (λ b. h)
 
   greet-holds : (w : Work) → ¬ (u32At v 0 ≡ w .state .own) → knows c (senderIn v) (w .state) ≡ false → Holds P w → Holds P (greet c (senderIn v) w)
   unfolding greet
   greet-holds w ne u h =
-      by-cond (Holds P) (roomForPeer (w .state)) (withState (addPeer (c .now) (newPeer c (senderIn v)) (w .state)) w) (dropOne w) (λ b. k .greets (w .state) ne u b h) (λ b. h)
+      by-cond (Holds P) (roomForPeer (w .state)) (withState (addPeer (c .clock) (newPeer c (senderIn v)) (w .state)) w) (dropOne w) (λ b. k .greets (w .state) ne u b h) (λ b. h)
 
   endpoint-holds : (w : Work) → Holds P w → Holds P (onEndpoint c (senderIn v) w)
   unfolding onEndpoint onStranger
@@ -97,7 +97,7 @@ module _ (c : Context) (P : State → Type 0) (v : List ℕ) (k : Steps c P v) w
   unfolding onNetwork onEqual
   network-holds d w h =
       by-cond (Holds P) (same (digestNow c w) d) _ _
-      (λ b. by-cond (Holds P) (c .unicast) (touch c w) (withState (heard c (touch c w .state)) (touch c w)) (λ q. touch-holds w h) (λ q. k .hears (touch c w .state) (touch-holds w h)))
+      (λ b. by-cond (Holds P) (c .unicast) (touch c w) (withState (countEqual c (touch c w .state)) (touch c w)) (λ q. touch-holds w h) (λ q. k .hears (touch c w .state) (touch-holds w h)))
       (λ b. by-cond (Holds P) (c .others) w (askNetwork c w) (λ q. h) (λ q. ask-holds w h))
 
   state-holds : (w : Work) → Holds P w → Holds P (onState c (receivedOf v) w)
@@ -105,7 +105,7 @@ module _ (c : Context) (P : State → Type 0) (v : List ℕ) (k : Steps c P v) w
   state-holds w h =
       by-cond (Holds P) (eqb (receivedOf v .node) (w .state .own)) _ _
       (λ b. by-cond (Holds P) (differs (ownEntry (w .state)) (receivedOf v)) _ w (λ q. k .reclaims (w .state) h) (λ q. h))
-      (λ b. rw (carry-state c (decide (c .now) (w .state .table) (receivedOf v)) w) (k .takes (w .state) (eqb-false (receivedOf v .node) (w .state .own) b) h))
+      (λ b. rw (carry-state c (decide (c .clock) (w .state .table) (receivedOf v)) w) (k .takes (w .state) (eqb-false (receivedOf v .node) (w .state .own) b) h))
 
   tlv-holds : (type : ℕ) (w : Work) → Holds P w → Holds P (onTlv c type v w)
   unfolding onTlv

@@ -22,62 +22,62 @@ use Rattle.base.proofs.Options.{by-cond}
 use Rattle.model.proofs.KeptData.{peers-keep, gone-good, gone-linked}
 
 -- the peers that go leave, and so do their TLVs
-module _ (now i : ℕ) (s : State) where
+module _ (clock i : ℕ) (s : State) where
   abbrev gone : List Peer
-  gone = keep (goes now i (s .table)) (s .peers)
+  gone = keep (goes clock i (s .table)) (s .peers)
 
   abbrev left : List Peer
-  left = keep (λ p. not (goes now i (s .table) p)) (s .peers)
+  left = keep (λ p. not (goes clock i (s .table) p)) (s .peers)
 
-  drop-kept : Midway now s → Midway now (withPeers left (publish now (withoutPeers gone (ownData s)) s))
+  drop-kept : Midway clock s → Midway clock (withPeers left (publish clock (withoutPeers gone (ownData s)) s))
   drop-kept m =
       let g : good dataLimit (ownData s) ≡ true = midway-own s m .fine in
       publish-kept (advance (ownSeq s) 1) (withoutPeers gone (ownData s)) left s m (advance-fits (ownSeq s) 1)
-      (gone-good (goes now i (s .table)) (ownData s) (s .peers) g)
-      (peers-keep (s .peers) (m .peers) (λ p. not (goes now i (s .table) p)))
-      (gone-linked (goes now i (s .table)) (ownData s) (s .peers) g (m .links) (m .peers .once))
+      (gone-good (goes clock i (s .table)) (ownData s) (s .peers) g)
+      (peers-keep (s .peers) (m .peers) (λ p. not (goes clock i (s .table) p)))
+      (gone-linked (goes clock i (s .table)) (ownData s) (s .peers) g (m .links) (m .peers .once))
 
-  pub silent-kept : Midway now s → Midway now (dropSilent now i s)
+  pub silent-kept : Midway clock s → Midway clock (dropSilent clock i s)
   unfolding dropSilent
   silent-kept m =
-      by-cond (Midway now) (someOf gone || leb refreshAge (ageAt now (ownEntry s))) (withPeers left (publish now (withoutPeers gone (ownData s)) s)) s (λ b. drop-kept m) (λ b. m)
+      by-cond (Midway clock) (someOf gone || leb refreshAge (ageAt clock (ownEntry s))) (withPeers left (publish clock (withoutPeers gone (ownData s)) s)) s (λ b. drop-kept m) (λ b. m)
 
 -- the endpoint's event
-event-kept : (now i random : ℕ) (s : State) → 1 ≤ i → i ≤ 4 → Midway now s → Midway now (withEvent i s (event now random (endpointAt i s .trickle)) .state)
-event-kept now i random s low high m =
-    let f : EndpointFits now (endpointAt i s) = endpoint-fits i low high s m in
-    endpoint-kept i low high s m (withTrickle (event now random (endpointAt i s .trickle) .next) (endpointAt i s))
-    (with-trickle now (event now random (endpointAt i s .trickle) .next) (endpointAt i s) f (event-fits now random (endpointAt i s .trickle) (f .trickle)))
+event-kept : (clock i random : ℕ) (s : State) → 1 ≤ i → i ≤ 4 → Midway clock s → Midway clock (withEvent i s (event clock random (endpointAt i s .trickle)) .state)
+event-kept clock i random s low high m =
+    let f : EndpointFits clock (endpointAt i s) = endpoint-fits i low high s m in
+    endpoint-kept i low high s m (withTrickle (event clock random (endpointAt i s .trickle) .next) (endpointAt i s))
+    (with-trickle clock (event clock random (endpointAt i s .trickle) .next) (endpointAt i s) f (event-fits clock random (endpointAt i s .trickle) (f .trickle)))
 
-module _ (now i : ℕ) (rs : List ℕ) (s : State) where
-  pub ticked-valid : Midway now s → 1 ≤ i → i ≤ 4 → now ≤ lastReading → Valid (ticked now i rs s .state)
+module _ (clock i : ℕ) (rs : List ℕ) (s : State) where
+  pub ticked-valid : Midway clock s → 1 ≤ i → i ≤ 4 → clock ≤ lastReading → Valid (ticked clock i rs s .state)
   unfolding ticked settle
   ticked-valid m low high l =
       record {
-        inside = event-kept now i (getD rs (pred i) 0) (settle now rs (dropSilent now i s)) low high (settle-midway now rs (dropSilent now i s) (silent-kept now i s m));
+        inside = event-kept clock i (getD rs (pred i) 0) (settle clock rs (dropSilent clock i s)) low high (settle-midway clock rs (dropSilent clock i s) (silent-kept clock i s m));
         last = l;
         digest = refl;
       }
 
-  pub ticked-own : ticked now i rs s .state .own ≡ s .own
+  pub ticked-own : ticked clock i rs s .state .own ≡ s .own
   unfolding ticked settle
-  ticked-own = silent-own now i s
+  ticked-own = silent-own clock i s
 
-module _ (now i : ℕ) (rs : List ℕ) (table room : ℕ) (s : State) where
+module _ (clock i : ℕ) (rs : List ℕ) (table room : ℕ) (s : State) where
   abbrev rows : List Row
-  rows = late now ∷ back now s ∷ noSuchEndpoint i ∷ smallRoom table room mostBytes ∷ []
+  rows = late clock ∷ back clock s ∷ noSuchEndpoint i ∷ smallRoom table room mostBytes ∷ []
 
-  pub tick-valid : Valid s → Valid (tick now i rs table room s .state)
+  pub tick-valid : Valid s → Valid (tick clock i rs table room s .state)
   unfolding tick
   tick-valid v =
-      by-cond (λ (a : Sent). Valid (a .state)) (eqb (refusalTick now i table room s) 0) (ticked now i rs s) _ (λ b. accepted (none-applies rows (omega arith) b)) (λ b. v)
+      by-cond (λ (a : Sent). Valid (a .state)) (eqb (refusalTick clock i table room s) 0) (ticked clock i rs s) _ (λ b. accepted (none-applies rows (omega arith) b)) (λ b. v)
     where
-      accepted : All (λ r. r .applies ≡ false) rows → Valid (ticked now i rs s .state)
+      accepted : All (λ r. r .applies ≡ false) rows → Valid (ticked clock i rs s .state)
       accepted a =
           let e : (1 ≤ i) × (i ≤ 4) = one-to-four i (a .1 .1 .0) in
-          ticked-valid now i rs s (valid-midway now s v (not-back now s (a .1 .0))) (e .0) (e .1) (not-late now (a .0))
+          ticked-valid clock i rs s (valid-midway clock s v (not-back clock s (a .1 .0))) (e .0) (e .1) (not-late clock (a .0))
 
-  pub tick-own : tick now i rs table room s .state .own ≡ s .own
+  pub tick-own : tick clock i rs table room s .state .own ≡ s .own
   unfolding tick
   tick-own =
-      by-cond (λ (a : Sent). a .state .own ≡ s .own) (eqb (refusalTick now i table room s) 0) (ticked now i rs s) _ (λ b. ticked-own now i rs s) (λ b. refl)
+      by-cond (λ (a : Sent). a .state .own ≡ s .own) (eqb (refusalTick clock i table room s) 0) (ticked clock i rs s) _ (λ b. ticked-own clock i rs s) (λ b. refl)

@@ -109,10 +109,10 @@ closed-end rest level e k r v m y j n =
 
 closed-more : (rest level new : List Vertex) (ls : List (List Vertex)) → keep (touched level) rest ≡ new → Closed (untouched level rest) new ls
     → Closed rest level (new ∷ ls)
-closed-more rest level new ls e ih k r v m y j n = by-test (touched level v) now (λ b. later b k m)
+closed-more rest level new ls e ih k r v m y j n = by-test (touched level v) clock (λ b. later b k m)
   where
-    now : touched level v ≡ true → In v (new ++ joinAll (take k ls))
-    now b = in-left v new (joinAll (take k ls)) (subst (λ (l : List Vertex). In v l) e (in-keep (touched level) v rest n b))
+    clock : touched level v ≡ true → In v (new ++ joinAll (take k ls))
+    clock b = in-left v new (joinAll (take k ls)) (subst (λ (l : List Vertex). In v l) e (in-keep (touched level) v rest n b))
 
     later : touched level v ≡ false → (k : ℕ) → In r (level ++ joinAll (take k (new ∷ ls))) → In v (new ++ joinAll (take k ls))
     later b zero m = ⊎-elim (λ h. no-way (touched level v) (touches level r v h y j) b) (λ h. absurd h) (in-append r level [] m)
@@ -192,33 +192,33 @@ module _ (own : ℕ) (t : List Vertex) where
 
 -- ---- reachable entries
 
-module _ (own now : ℕ) (t : List Entry) where
-  pub reach-chain : (n : ℕ) → inReach own now t n ≡ true → Chained own now t n
+module _ (own clock : ℕ) (t : List Entry) where
+  pub reach-chain : (n : ℕ) → inReach own clock t n ≡ true → Chained own clock t n
   unfolding inReach marked
   reach-chain n e =
-      let r = in-any (isNode n) (met own (vertices now t)) e in
-      let c = met-chain own (vertices now t) (r .0) (r .1) in
+      let r = in-any (isNode n) (met own (vertices clock t)) e in
+      let c = met-chain own (vertices clock t) (r .0) (r .1) in
       (c .0, r .0, c .1, eqb-true (r .0 .says .node) n (r .2))
 
-  pub chain-reach : (n : ℕ) → Chained own now t n → inReach own now t n ≡ true
+  pub chain-reach : (n : ℕ) → Chained own clock t n → inReach own clock t n ≡ true
   unfolding inReach marked
-  chain-reach n c = any-in (isNode n) (c .1) (met own (vertices now t)) (chain-met own (vertices now t) (c .2)) (eq-eqb (c .1 .says .node) n (c .3))
+  chain-reach n c = any-in (isNode n) (c .1) (met own (vertices clock t)) (chain-met own (vertices clock t) (c .2)) (eq-eqb (c .1 .says .node) n (c .3))
 
-  pub in-reached : (e : Entry) → In e t → inReach own now t (idOf e) ≡ true → In e (reached own now t)
+  pub in-reached : (e : Entry) → In e t → inReach own clock t (idOf e) ≡ true → In e (reached own clock t)
   unfolding reached
-  in-reached e m r = in-keep (λ e. inReach own now t (idOf e)) e t m r
+  in-reached e m r = in-keep (λ e. inReach own clock t (idOf e)) e t m r
 
-  pub reached-in : (e : Entry) → In e (reached own now t) → In e t × (inReach own now t (idOf e) ≡ true)
+  pub reached-in : (e : Entry) → In e (reached own clock t) → In e t × (inReach own clock t (idOf e) ≡ true)
   unfolding reached
-  reached-in e m = keep-in (λ e. inReach own now t (idOf e)) e t m
+  reached-in e m = keep-in (λ e. inReach own clock t (idOf e)) e t m
 
-  pub reached-ascending : Ascending idOf t → Ascending idOf (reached own now t)
+  pub reached-ascending : Ascending idOf t → Ascending idOf (reached own clock t)
   unfolding reached
-  reached-ascending a = keep-ascending idOf (λ e. inReach own now t (idOf e)) t a
+  reached-ascending a = keep-ascending idOf (λ e. inReach own clock t (idOf e)) t a
 
-  pub reached-short : length (reached own now t) ≤ length t
+  pub reached-short : length (reached own clock t) ≤ length t
   unfolding reached
-  reached-short = omega (arith, keep-length (λ e. inReach own now t (idOf e)) t)
+  reached-short = omega (arith, keep-length (λ e. inReach own clock t (idOf e)) t)
 
 -- ---- our own node
 
@@ -229,21 +229,21 @@ own-held {s} v =
     by-find idOf (s .own) (s .table) (λ q. no-way false (sym (ap isSome q) ∙ v .inside .table .held) refl)
     (λ e q. let r = find-some idOf (s .own) e (s .table) q in (e, r .0, r .1))
 
-own-vertex : {s : State} → Valid s → (now : ℕ) → (v : Vertex) × In v (vertices now (s .table)) × (v .says .node ≡ s .own)
-own-vertex {s} v now =
-    let h = own-held v in (record { says = h .0 .says; young = underAge now (h .0) }, in-map _ (h .0) (s .table) (h .1), h .2)
+own-vertex : {s : State} → Valid s → (clock : ℕ) → (v : Vertex) × In v (vertices clock (s .table)) × (v .says .node ≡ s .own)
+own-vertex {s} v clock =
+    let h = own-held v in (record { says = h .0 .says; young = underAge clock (h .0) }, in-map _ (h .0) (s .table) (h .1), h .2)
 
 -- it is reachable at every reading
-pub own-reached : {s : State} → Valid s → (now : ℕ) → inReach (s .own) now (s .table) (s .own) ≡ true
-own-reached {s} v now = let h = own-vertex v now in chain-reach (s .own) now (s .table) (s .own) (0, h .0, here (h .1) (h .2), h .2)
+pub own-reached : {s : State} → Valid s → (clock : ℕ) → inReach (s .own) clock (s .table) (s .own) ≡ true
+own-reached {s} v clock = let h = own-vertex v clock in chain-reach (s .own) clock (s .table) (s .own) (0, h .0, here (h .1) (h .2), h .2)
 
 pub levels-are-chains : LevelsAreChains
 levels-are-chains =
     record {
-      same = λ own now t n. (reach-chain own now t n, chain-reach own now t n);
-      entries = λ own now t e. (reached-in own now t e, λ h. in-reached own now t e (h .0) (h .1));
+      same = λ own clock t n. (reach-chain own clock t n, chain-reach own clock t n);
+      entries = λ own clock t e. (reached-in own clock t e, λ h. in-reached own clock t e (h .0) (h .1));
       sorted = reached-ascending;
-      few = λ s now v. let h = own-vertex v now in
-          let l : length (vertices now (s .table)) ≡ length (s .table) = length-map (s .table) _ in
-          omega (arith, levels-less (s .own) (vertices now (s .table)) (h .0) (h .1) (h .2));
+      few = λ s clock v. let h = own-vertex v clock in
+          let l : length (vertices clock (s .table)) ≡ length (s .table) = length-map (s .table) _ in
+          omega (arith, levels-less (s .own) (vertices clock (s .table)) (h .0) (h .1) (h .2));
     }

@@ -43,7 +43,7 @@ said r d = record { node = r .node; seq = r .seq; nodeData = d }
 -- a Node State carries the data d, good and with matching H: it is taken whole where it is wanted
 pub record Carries (r : Received) (d : List ℕ) : Type 0 where
   pub hashed : same (hash16 d) (r .hash) ≡ true
-  pub takes : (now : ℕ) (z : Decision) → orElse (r .carried) z (withData now r) ≡ Decision.takeAll (taken now r d)
+  pub takes : (clock : ℕ) (z : Decision) → orElse (r .carried) z (withData clock r) ≡ Decision.takeAll (taken clock r d)
 
 -- a datagram that is one such Node State
 pub record Found (c : Call) (x : Statement) : Type 0 where
@@ -64,7 +64,7 @@ carrying n q a h (some d) x e =
     let k = chosen (good dataLimit d && same (hash16 d) h) (some (said r d)) x e in
     let v : said r d ≡ x = cc in
     subst (λ (x : Statement). Carries r (x .nodeData) × (said r (x .nodeData) ≡ x)) v
-    (record { hashed = and-right (good dataLimit d) (same (hash16 d) h) (k .0); takes = λ now z. rw (k .0) }, refl)
+    (record { hashed = and-right (good dataLimit d) (same (hash16 d) h) (k .0); takes = λ clock z. rw (k .0) }, refl)
 
 found-in : (c : Call) (x : Statement) (ts : List (List ℕ)) → tlvs (c .datagram) ≡ ts → alone ts ≡ some x → Found c x
 found-in c x [] p e = absurd (let z : _≡_ {A = ℕ} 0 1 = cc in omega arith)
@@ -143,7 +143,7 @@ pub on-state : (c : Context) (y : ℕ) (v : List ℕ) (w : Work) → y ≡ 5 →
 unfolding onTlv
 on-state c y v w e l = rw (e, l)
 
-pub on-foreign : (c : Context) (r : Received) (w : Work) → ¬ (r .node ≡ w .state .own) → onState c r w ≡ carryOut c (decide (c .now) (w .state .table) r) w
+pub on-foreign : (c : Context) (r : Received) (w : Work) → ¬ (r .node ≡ w .state .own) → onState c r w ≡ carryOut c (decide (c .clock) (w .state .table) r) w
 unfolding onState
 on-foreign c r w ne = rw (ne-eqb (r .node) (w .state .own) ne)
 
@@ -161,27 +161,27 @@ handled-one s c t e = ap (λ (ts : List (List ℕ)). allTlvs (contextOf s c) ts 
 
 -- ---- the decision is that of the newest
 
-module _ (now : ℕ) (t : List Entry) (r : Received) (d : List ℕ) (h : Carries r d) where
-  decide-new : find idOf (r .node) t ≡ none → length t < mostNodes → decide now t r ≡ Decision.takeAll (taken now r d)
+module _ (clock : ℕ) (t : List Entry) (r : Received) (d : List ℕ) (h : Carries r d) where
+  decide-new : find idOf (r .node) t ≡ none → length t < mostNodes → decide clock t r ≡ Decision.takeAll (taken clock r d)
   unfolding decide look wantedNew
-  decide-new l few = rw (l, lt-leb mostNodes (length t) few) (h .takes now (Decision.ask (r .node)))
+  decide-new l few = rw (l, lt-leb mostNodes (length t) few) (h .takes clock (Decision.ask (r .node)))
 
-  decide-newer : (g : Entry) → find idOf (r .node) t ≡ some g → older (g .says .seq) (r .seq) ≡ true → decide now t r ≡ Decision.takeAll (taken now r d)
+  decide-newer : (g : Entry) → find idOf (r .node) t ≡ some g → older (g .says .seq) (r .seq) ≡ true → decide clock t r ≡ Decision.takeAll (taken clock r d)
   unfolding decide look differs wantedHeld
-  decide-newer g l o = rw (l, o) (h .takes now (withoutData now r g))
+  decide-newer g l o = rw (l, o) (h .takes clock (withoutData clock r g))
 
   decide-older : (g : Entry) → find idOf (r .node) t ≡ some g → older (g .says .seq) (r .seq) ≡ false → (g .says .seq ≡ r .seq → g .says .nodeData ≡ d)
-      → decide now t r ≡ Decision.ignored
+      → decide clock t r ≡ Decision.ignored
   unfolding decide look differs
   decide-older g l o single =
       by-test (eqb (g .says .seq) (r .seq))
       (λ b. rw (l, o, b, single (eqb-true (g .says .seq) (r .seq) b), h .hashed)) (λ b. rw (l, o, b))
 
-  pub takes-all : statements (after (Decision.takeAll (taken now r d)) t) ≡ insert nodeOf (said r d) (statements t)
+  pub takes-all : statements (after (Decision.takeAll (taken clock r d)) t) ≡ insert nodeOf (said r d) (statements t)
   unfolding after put
-  takes-all = insert-map saysOf nodeOf (taken now r d) t
+  takes-all = insert-map saysOf nodeOf (taken clock r d) t
 
-  pub decided : Welcome (said r d) (statements t) → statements (after (decide now t r) t) ≡ absorb (said r d) (statements t)
+  pub decided : Welcome (said r d) (statements t) → statements (after (decide clock t r) t) ≡ absorb (said r d) (statements t)
   unfolding after
   decided k =
       by-find idOf (r .node) t
@@ -203,7 +203,7 @@ module _ (s : State) (c : Call) (acc : accepted s c ≡ true) (b : Brings (s .ow
   received : Received
   received = receivedOf (valueOf (its .tlv))
 
-  next-seen : seen (next s c) ≡ (s .own, after (decide (c .now) (s .table) received) (s .table))
+  next-seen : seen (next s c) ≡ (s .own, after (decide (c .clock) (s .table) received) (s .table))
   unfolding received
   next-seen =
       let k = contextOf s c in
@@ -211,7 +211,7 @@ module _ (s : State) (c : Call) (acc : accepted s c ≡ true) (b : Brings (s .ow
       accepted-seen s c acc ∙ ap (λ (v : Work). seen (v .state)) (handled-one s c (its .tlv) (its .only)) ∙ one-seen k (its .tlv) w
       ∙ ap (λ (v : Work). seen (v .state))
       (on-state k (typeOf (its .tlv)) (valueOf (its .tlv)) w (its .type) (its .long) ∙ on-foreign k received w (λ q. b .foreign (ap nodeOf (sym (its .is)) ∙ q)))
-      ∙ carry-seen k (decide (c .now) (s .table) received) w
+      ∙ carry-seen k (decide (c .clock) (s .table) received) w
 
   pub own-same : next s c .own ≡ s .own
   own-same = ap (λ (p : ℕ × List Entry). p .0) next-seen
@@ -220,4 +220,4 @@ module _ (s : State) (c : Call) (acc : accepted s c ≡ true) (b : Brings (s .ow
   unfolding received
   table-absorbs =
       subst (λ (x : Statement). Welcome x (statements (s .table)) → statements (next s c .table) ≡ absorb x (statements (s .table))) (its .is)
-      (λ k. ap (λ (p : ℕ × List Entry). statements (p .1)) next-seen ∙ decided (c .now) (s .table) received (b .statement .nodeData) (its .carries) k)
+      (λ k. ap (λ (p : ℕ × List Entry). statements (p .1)) next-seen ∙ decided (c .clock) (s .table) received (b .statement .nodeData) (its .carries) k)

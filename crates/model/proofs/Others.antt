@@ -98,11 +98,11 @@ module _ (own : ℕ) (x : Statement) (n : ¬ (x .node ≡ own)) where
 
 -- it says nothing and changes nothing, or says one thing, which is taken by the newest
 abbrev pub Outcome : ℕ → List Entry → Received → Type 0
-Outcome now t r =
-    ((saidIn t r ≡ []) × (statements (after (decide now t r) t) ≡ statements t))
-    ⊎ ((x : Statement) × (saidIn t r ≡ x ∷ []) × (x .node ≡ r .node) × (Welcome x (statements t) → statements (after (decide now t r) t) ≡ absorb x (statements t)))
+Outcome clock t r =
+    ((saidIn t r ≡ []) × (statements (after (decide clock t r) t) ≡ statements t))
+    ⊎ ((x : Statement) × (saidIn t r ≡ x ∷ []) × (x .node ≡ r .node) × (Welcome x (statements t) → statements (after (decide clock t r) t) ≡ absorb x (statements t)))
 
-module _ (now : ℕ) (t : List Entry) (n q a : ℕ) (h : List ℕ) where
+module _ (clock : ℕ) (t : List Entry) (n q a : ℕ) (h : List ℕ) where
   abbrev full : List ℕ → Received
   full d = record { node = n; seq = q; age = a; hash = h; carried = some d }
 
@@ -112,16 +112,16 @@ module _ (now : ℕ) (t : List Entry) (n q a : ℕ) (h : List ℕ) where
   -- with data
   carries : (d : List ℕ) → good dataLimit d && same (hash16 d) h ≡ true → Carries (full d) d
   unfolding withData
-  carries d b = record { hashed = and-right (good dataLimit d) (same (hash16 d) h) b; takes = λ now z. rw b }
+  carries d b = record { hashed = and-right (good dataLimit d) (same (hash16 d) h) b; takes = λ clock z. rw b }
 
-  bad-data : (d : List ℕ) → good dataLimit d && same (hash16 d) h ≡ false → after (decide now t (full d)) t ≡ t
+  bad-data : (d : List ℕ) → good dataLimit d && same (hash16 d) h ≡ false → after (decide clock t (full d)) t ≡ t
   unfolding decide look wantedNew wantedHeld withData after
   bad-data d b =
       by-find idOf n t (λ l. by-test (leb mostNodes (length t)) (λ m. rw (l, m)) (λ m. rw (l, m, b)))
       (λ g l. by-test (differs g (full d)) (λ m. rw (l, m, b)) (λ m. rw (l, m)))
 
   -- without
-  unknown : find idOf n t ≡ none → after (decide now t bare) t ≡ t
+  unknown : find idOf n t ≡ none → after (decide clock t bare) t ≡ t
   unfolding decide look wantedNew after
   unknown l = by-test (leb mostNodes (length t)) (λ m. rw (l, m)) (λ m. rw (l, m))
 
@@ -129,37 +129,37 @@ module _ (now : ℕ) (t : List Entry) (n q a : ℕ) (h : List ℕ) where
     held-says : find nodeOf n (statements t) ≡ some (g .says)
     held-says = find-map saysOf nodeOf n t ∙ rw l
 
-    other-hash : same (hash16 (g .says .nodeData)) h ≡ false → after (decide now t bare) t ≡ t
+    other-hash : same (hash16 (g .says .nodeData)) h ≡ false → after (decide clock t bare) t ≡ t
     unfolding decide look wantedHeld withoutData after
     other-hash b = by-test (differs g bare) (λ m. rw (l, m, b)) (λ m. rw (l, m))
 
     module _ (b : same (hash16 (g .says .nodeData)) h ≡ true) where
-      renumbered : older (g .says .seq) q ≡ true → statements (after (decide now t bare) t) ≡ insert nodeOf (saying bare (g .says .nodeData)) (statements t)
+      renumbered : older (g .says .seq) q ≡ true → statements (after (decide clock t bare) t) ≡ insert nodeOf (saying bare (g .says .nodeData)) (statements t)
       unfolding decide look differs wantedHeld withoutData after put
-      renumbered o = rw (l, o, b) (insert-map saysOf nodeOf (taken now bare (g .says .nodeData)) t)
+      renumbered o = rw (l, o, b) (insert-map saysOf nodeOf (taken clock bare (g .says .nodeData)) t)
 
-      not-newer : older (g .says .seq) q ≡ false → after (decide now t bare) t ≡ t
+      not-newer : older (g .says .seq) q ≡ false → after (decide clock t bare) t ≡ t
       unfolding decide look differs after
       not-newer o = by-test (eqb (g .says .seq) q) (λ m. rw (l, o, m, b)) (λ m. rw (l, o, m))
 
-      same-hash : statements (after (decide now t bare) t) ≡ absorb (saying bare (g .says .nodeData)) (statements t)
+      same-hash : statements (after (decide clock t bare) t) ≡ absorb (saying bare (g .says .nodeData)) (statements t)
       same-hash =
           by-test (older (g .says .seq) q)
           (λ o. renumbered o ∙ sym (absorb-newer (saying bare (g .says .nodeData)) (statements t) (g .says) held-says o))
           (λ o. ap statements (not-newer o) ∙ sym (absorb-old (saying bare (g .says .nodeData)) (statements t) (g .says) held-says o))
 
-  outcome-by : (o : Option (List ℕ)) → Outcome now t (record { node = n; seq = q; age = a; hash = h; carried = o })
+  outcome-by : (o : Option (List ℕ)) → Outcome clock t (record { node = n; seq = q; age = a; hash = h; carried = o })
   unfolding look
   outcome-by (some d) =
-      by-test (good dataLimit d && same (hash16 d) h) (λ b. inr (saying (full d) d, rw b, refl, decided now t (full d) d (carries d b)))
+      by-test (good dataLimit d && same (hash16 d) h) (λ b. inr (saying (full d) d, rw b, refl, decided clock t (full d) d (carries d b)))
       (λ b. inl (rw b, ap statements (bad-data d b)))
   outcome-by none =
       by-find idOf n t (λ l. inl (rw l, ap statements (unknown l)))
       (λ g l. by-test (same (hash16 (g .says .nodeData)) h) (λ b. inr (saying bare (g .says .nodeData), rw (l, b), refl, λ k. same-hash g l b))
       (λ b. inl (rw (l, b), ap statements (other-hash g l b))))
 
-pub outcome : (now : ℕ) (t : List Entry) (r : Received) → Outcome now t r
-outcome now t r = outcome-by now t (r .node) (r .seq) (r .age) (r .hash) (r .carried)
+pub outcome : (clock : ℕ) (t : List Entry) (r : Received) → Outcome clock t r
+outcome clock t r = outcome-by clock t (r .node) (r .seq) (r .age) (r .hash) (r .carried)
 
 pub after-sorted : (d : Decision) (t : List Entry) → Ascending idOf t → Ascending idOf (after d t)
 unfolding after put
@@ -183,13 +183,13 @@ onward : (s r v : State) → Aside s r → v .own ≡ r .own → v .table ≡ r 
 onward s r v a o e =
     record { own = o ∙ a .own; others = ap (λ (t : List Entry). apart (s .own) (statements t)) e ∙ a .others; sorted = λ h. rw e (a .sorted h) }
 
-published : (now n : ℕ) (d : List ℕ) (s : State) → Aside s (publishAs now n d s)
+published : (clock n : ℕ) (d : List ℕ) (s : State) → Aside s (publishAs clock n d s)
 unfolding publishAs put
-published now n d s =
+published clock n d s =
     record {
       own = refl;
-      others = ap (apart (s .own)) (insert-map saysOf nodeOf (entryOf (s .own) n d 0 now) (s .table)) ∙ apart-own (s .own) (entryOf (s .own) n d 0 now .says) (statements (s .table)) refl;
-      sorted = insert-ascending idOf (entryOf (s .own) n d 0 now) (s .table);
+      others = ap (apart (s .own)) (insert-map saysOf nodeOf (entryOf (s .own) n d 0 clock) (s .table)) ∙ apart-own (s .own) (entryOf (s .own) n d 0 clock .says) (statements (s .table)) refl;
+      sorted = insert-ascending idOf (entryOf (s .own) n d 0 clock) (s .table);
     }
 
 -- ---- TLVs
@@ -224,7 +224,7 @@ module _ (c : Context) where
   greet-beside : (f : Sender) (v : Work) → Beside v (greet c f v)
   unfolding greet addPeer
   greet-beside f v =
-      either (roomForPeer (v .state)) (record { state = onward (v .state) (publish (c .now) (withTlv _ (ownData (v .state))) (v .state)) _ (published (c .now) (advance (ownSeq (v .state)) 1) (withTlv _ (ownData (v .state))) (v .state)) refl refl })
+      either (roomForPeer (v .state)) (record { state = onward (v .state) (publish (c .clock) (withTlv _ (ownData (v .state))) (v .state)) _ (published (c .clock) (advance (ownSeq (v .state)) 1) (withTlv _ (ownData (v .state))) (v .state)) refl refl })
       (by-seen refl)
 
   endpoint-beside : (f : Sender) (w : Work) → Beside w (onEndpoint c f w)
@@ -240,19 +240,19 @@ module _ (c : Context) where
 
   own-beside : (r : Received) (w : Work) → Beside w (onOwnState c r w)
   unfolding onOwnState
-  own-beside r w = either (differs (ownEntry (w .state)) r) (record { state = published (c .now) _ (ownData (w .state)) (w .state) }) (by-seen refl)
+  own-beside r w = either (differs (ownEntry (w .state)) r) (record { state = published (c .clock) _ (ownData (w .state)) (w .state) }) (by-seen refl)
 
   request-beside : (w : Work) → Beside w (onRequestNetwork c w)
   unfolding onRequestNetwork
-  request-beside w = by-seen (replies-seen (networkTlv (digestNow c w) ∷ map (shortState (c .now)) (reachedNow c w)) w)
+  request-beside w = by-seen (replies-seen (networkTlv (digestNow c w) ∷ map (shortState (c .clock)) (reachedNow c w)) w)
 
   node-beside : (n : ℕ) (w : Work) → Beside w (onRequestNode c n w)
   unfolding onRequestNode
-  node-beside n w = either (inReach (w .state .own) (c .now) (w .state .table) n) (go (look n (w .state .table))) (by-seen refl)
+  node-beside n w = either (inReach (w .state .own) (c .clock) (w .state .table) n) (go (look n (w .state .table))) (by-seen refl)
     where
-      go : (o : Option Entry) → Beside w (orElse o w (λ e. reply c (wholeState (c .now) e) w))
+      go : (o : Option Entry) → Beside w (orElse o w (λ e. reply c (wholeState (c .clock) e) w))
       go none = by-seen refl
-      go (some e) = by-seen (reply-seen c (wholeState (c .now) e) w)
+      go (some e) = by-seen (reply-seen c (wholeState (c .clock) e) w)
 
   -- a Node State of length 28 or more is about our own node
   state-beside : (y : ℕ) (v : List ℕ) (w : Work) → (eqb y 5 && leb 28 (length v)) && not (eqb (u32At v 0) (w .state .own)) ≡ false
@@ -284,29 +284,29 @@ module _ (c : Context) where
 
 -- ---- ticks and payments
 
-module _ (now : ℕ) (s : State) where
-  silent-aside : (i : ℕ) → Aside s (dropSilent now i s)
+module _ (clock : ℕ) (s : State) where
+  silent-aside : (i : ℕ) → Aside s (dropSilent clock i s)
   unfolding dropSilent
   silent-aside i =
-      by-cond (Aside s) (someOf (keep (goes now i (s .table)) (s .peers)) || leb refreshAge (ageAt now (ownEntry s)))
-      (withPeers (keep (λ p. not (goes now i (s .table) p)) (s .peers)) (publish now (withoutPeers (keep (goes now i (s .table)) (s .peers)) (ownData s)) s)) s
-      (λ b. onward s (publish now (withoutPeers (keep (goes now i (s .table)) (s .peers)) (ownData s)) s) _ (published now (advance (ownSeq s) 1) (withoutPeers (keep (goes now i (s .table)) (s .peers)) (ownData s)) s) refl refl)
+      by-cond (Aside s) (someOf (keep (goes clock i (s .table)) (s .peers)) || leb refreshAge (ageAt clock (ownEntry s)))
+      (withPeers (keep (λ p. not (goes clock i (s .table) p)) (s .peers)) (publish clock (withoutPeers (keep (goes clock i (s .table)) (s .peers)) (ownData s)) s)) s
+      (λ b. onward s (publish clock (withoutPeers (keep (goes clock i (s .table)) (s .peers)) (ownData s)) s) _ (published clock (advance (ownSeq s) 1) (withoutPeers (keep (goes clock i (s .table)) (s .peers)) (ownData s)) s) refl refl)
       (λ b. still s s refl refl)
 
-  ticked-aside : (i : ℕ) (rs : List ℕ) → Aside s (ticked now i rs s .state)
+  ticked-aside : (i : ℕ) (rs : List ℕ) → Aside s (ticked clock i rs s .state)
   unfolding ticked settle
-  ticked-aside i rs = onward s (dropSilent now i s) _ (silent-aside i) refl refl
+  ticked-aside i rs = onward s (dropSilent clock i s) _ (silent-aside i) refl refl
 
-  pub tick-aside : (i : ℕ) (rs : List ℕ) (table room : ℕ) → Aside s (tick now i rs table room s .state)
+  pub tick-aside : (i : ℕ) (rs : List ℕ) (table room : ℕ) → Aside s (tick clock i rs table room s .state)
   unfolding tick
   tick-aside i rs table room =
-      by-cond (λ (a : Sent). Aside s (a .state)) (eqb (refusalTick now i table room s) 0) (ticked now i rs s) _ (λ b. ticked-aside i rs) (λ b. still s s refl refl)
+      by-cond (λ (a : Sent). Aside s (a .state)) (eqb (refusalTick clock i table room s) 0) (ticked clock i rs s) _ (λ b. ticked-aside i rs) (λ b. still s s refl refl)
 
-  paid-aside : (p : Payment) (rs : List ℕ) → Aside s (paid now p rs s)
+  paid-aside : (p : Payment) (rs : List ℕ) → Aside s (paid clock p rs s)
   unfolding paid settle
-  paid-aside p rs = onward s (publish now (withTlv _ (ownData s)) s) _ (published now (advance (ownSeq s) 1) (withTlv _ (ownData s)) s) refl refl
+  paid-aside p rs = onward s (publish clock (withTlv _ (ownData s)) s) _ (published clock (advance (ownSeq s) 1) (withTlv _ (ownData s)) s) refl refl
 
-  pub pay-aside : (p : Payment) (rs : List ℕ) (table : ℕ) → Aside s (pay now p rs table s .state)
+  pub pay-aside : (p : Payment) (rs : List ℕ) (table : ℕ) → Aside s (pay clock p rs table s .state)
   unfolding pay
   pay-aside p rs table =
-      by-cond (λ (a : Done). Aside s (a .state)) (eqb (refusalPay now p table s) 0) (record { number = 0; state = paid now p rs s }) _ (λ b. paid-aside p rs) (λ b. still s s refl refl)
+      by-cond (λ (a : Done). Aside s (a .state)) (eqb (refusalPay clock p table s) 0) (record { number = 0; state = paid clock p rs s }) _ (λ b. paid-aside p rs) (λ b. still s s refl refl)

@@ -37,55 +37,55 @@ received-is n q a h d l =
     let a′ : u32At v 8 ≡ a = omega arith in
     rw (n′, q′, a′, take-at h d 16 l, drop-at h d 16 l)
 
-state-read : (now : ℕ) (e : Entry) (d : List ℕ)
-    → receivedOf (stateHead now e ++ d)
-    ≡ record { node = idOf e; seq = e .says .seq; age = min (ageAt now e) mostAge; hash = hash16 (e .says .nodeData); carried = carriedIn (hash16 (e .says .nodeData)) d }
+state-read : (clock : ℕ) (e : Entry) (d : List ℕ)
+    → receivedOf (stateHead clock e ++ d)
+    ≡ record { node = idOf e; seq = e .says .seq; age = min (ageAt clock e) mostAge; hash = hash16 (e .says .nodeData); carried = carriedIn (hash16 (e .says .nodeData)) d }
 unfolding stateHead
-state-read now e d = received-is (idOf e) (e .says .seq) (min (ageAt now e) mostAge) (hash16 (e .says .nodeData)) d (hash16-length (e .says .nodeData))
+state-read clock e d = received-is (idOf e) (e .says .seq) (min (ageAt clock e) mostAge) (hash16 (e .says .nodeData)) d (hash16-length (e .says .nodeData))
 
 -- data that go behind their digest are carried, empty data too
 carried-all : (d : List ℕ) → carriedIn (hash16 d) d ≡ some d
 carried-all [] = rw same-self
 carried-all (x ∷ d) = refl
 
-whole-back : (now : ℕ) (e : Entry)
-    → receivedOf (valueOf (wholeState now e))
-    ≡ record { node = idOf e; seq = e .says .seq; age = min (ageAt now e) mostAge; hash = hash16 (e .says .nodeData); carried = some (e .says .nodeData) }
-whole-back now e =
-    rw (encode-value 5 (stateHead now e ++ e .says .nodeData)) (state-read now e (e .says .nodeData) ∙ rw (carried-all (e .says .nodeData)))
+whole-back : (clock : ℕ) (e : Entry)
+    → receivedOf (valueOf (wholeState clock e))
+    ≡ record { node = idOf e; seq = e .says .seq; age = min (ageAt clock e) mostAge; hash = hash16 (e .says .nodeData); carried = some (e .says .nodeData) }
+whole-back clock e =
+    rw (encode-value 5 (stateHead clock e ++ e .says .nodeData)) (state-read clock e (e .says .nodeData) ∙ rw (carried-all (e .says .nodeData)))
 
-short-back : (now : ℕ) (e : Entry)
-    → receivedOf (valueOf (shortState now e))
+short-back : (clock : ℕ) (e : Entry)
+    → receivedOf (valueOf (shortState clock e))
     ≡ record {
       node = idOf e;
       seq = e .says .seq;
-      age = min (ageAt now e) mostAge;
+      age = min (ageAt clock e) mostAge;
       hash = hash16 (e .says .nodeData);
       carried = cond (same (hash16 (e .says .nodeData)) (hash16 [])) (some []) none;
     }
-short-back now e = rw (encode-value 5 (stateHead now e)) (ap receivedOf (sym (append-nil (stateHead now e))) ∙ state-read now e [])
+short-back clock e = rw (encode-value 5 (stateHead clock e)) (ap receivedOf (sym (append-nil (stateHead clock e))) ∙ state-read clock e [])
 
 -- ---- the network digest
 
-digest-is : (own now : ℕ) (t : List Entry)
-    → networkDigest own now t ≡ hash16 (joinAll (map (λ e. big32 (e .says .seq) ++ hash16 (e .says .nodeData)) (reached own now t)))
+digest-is : (own clock : ℕ) (t : List Entry)
+    → networkDigest own clock t ≡ hash16 (joinAll (map (λ e. big32 (e .says .seq) ++ hash16 (e .says .nodeData)) (reached own clock t)))
 unfolding networkDigest digestOf
-digest-is own now t = ap (λ (ps : List (List ℕ)). hash16 (joinAll ps)) (parts (reached own now t))
+digest-is own clock t = ap (λ (ps : List (List ℕ)). hash16 (joinAll ps)) (parts (reached own clock t))
   where
     parts : (es : List Entry) → map digestPart (statements es) ≡ map (λ (e : Entry). big32 (e .says .seq) ++ hash16 (e .says .nodeData)) es
     parts [] = refl
     parts (e ∷ es) = rw (parts es)
 
 -- our own node is always reachable
-alone-reached : (own now : ℕ) (e : Entry) → idOf e ≡ own → reached own now (e ∷ []) ≡ e ∷ []
+alone-reached : (own clock : ℕ) (e : Entry) → idOf e ≡ own → reached own clock (e ∷ []) ≡ e ∷ []
 unfolding reached
-alone-reached own now e h =
-    let r : inReach own now (e ∷ []) (idOf e) ≡ true = chain-reach own now (e ∷ []) (idOf e) (0, _, here (inl refl) h, refl) in rw r
+alone-reached own clock e h =
+    let r : inReach own clock (e ∷ []) (idOf e) ≡ true = chain-reach own clock (e ∷ []) (idOf e) (0, _, here (inl refl) h, refl) in rw r
 
-digest-alone : (own now : ℕ) (e : Entry) → idOf e ≡ own → networkDigest own now (e ∷ []) ≡ hash16 (big32 (e .says .seq) ++ hash16 (e .says .nodeData))
-digest-alone own now e h =
-    digest-is own now (e ∷ [])
-    ∙ rw (alone-reached own now e h, append-nil (hash16 (e .says .nodeData)))
+digest-alone : (own clock : ℕ) (e : Entry) → idOf e ≡ own → networkDigest own clock (e ∷ []) ≡ hash16 (big32 (e .says .seq) ++ hash16 (e .says .nodeData))
+digest-alone own clock e h =
+    digest-is own clock (e ∷ [])
+    ∙ rw (alone-reached own clock e h, append-nil (hash16 (e .says .nodeData)))
 
 pub states-read-back : StatesReadBack
 states-read-back = record { whole = whole-back; short = short-back; digest = digest-is; alone = digest-alone }

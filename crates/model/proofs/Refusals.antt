@@ -48,23 +48,23 @@ pub refusals-change-nothing : RefusalsChangeNothing
 unfolding begin resume receive tick ticked pay purge total sum marks save shown
 refusals-change-nothing =
     record {
-      begins = λ own now rs table s. unchanged (refusalBegin now table) (begun own now rs) s;
-      resumes = λ now bytes rs table s. unchanged (refusalResume now bytes table) (orElse (load now bytes) s (resumed now rs)) s;
+      begins = λ own clock rs table s. unchanged (refusalBegin clock table) (begun own clock rs) s;
+      resumes = λ clock bytes rs table s. unchanged (refusalResume clock bytes table) (orElse (load clock bytes) s (resumed clock rs)) s;
       receives = λ c s. refused-as (λ a. a .number) (refusalReceive c s) (answered c (handled s c))
           (λ n. record { number = n; state = s; bytes = []; omitted = 0; dropped = 0 }) refl (λ k. refl);
-      ticks = λ now i rs table room s. refused-as (λ a. a .number) (refusalTick now i table room s) (ticked now i rs s)
+      ticks = λ clock i rs table room s. refused-as (λ a. a .number) (refusalTick clock i table room s) (ticked clock i rs s)
           (λ n. record { number = n; state = s; bytes = [] }) refl (λ k. refl);
-      pays = λ now p rs table s. unchanged (refusalPay now p table s) (paid now p rs s) s;
-      purges = λ now rs table s. unchanged (refusalPurge now table s) (purged now rs s) s;
-      totals = λ now h table s. refused-as (λ a. a .number) (refusalTotal now h table s)
-          (record { number = 0; value = totalOf h (reachable now s); unread = unreadable (paymentsIn (reachable now s)) }) notSummed refl (λ k. refl);
-      sums = λ now table s. refused-as (λ a. a .number) (refusalSum now table s)
-          (record { number = 0; value = sumOf (reachable now s); unread = unreadable (paymentsIn (reachable now s)) }) notSummed refl (λ k. refl);
-      marking = λ now table s. refused-as (λ a. a .number) (refusalMarks now table s)
-          (record { number = 0; nodes = map idOf (reached (s .own) now (s .table)); digest = networkDigest (s .own) now (s .table) })
+      pays = λ clock p rs table s. unchanged (refusalPay clock p table s) (paid clock p rs s) s;
+      purges = λ clock rs table s. unchanged (refusalPurge clock table s) (purged clock rs s) s;
+      totals = λ clock h table s. refused-as (λ a. a .number) (refusalTotal clock h table s)
+          (record { number = 0; value = totalOf h (reachable clock s); unread = unreadable (paymentsIn (reachable clock s)) }) notSummed refl (λ k. refl);
+      sums = λ clock table s. refused-as (λ a. a .number) (refusalSum clock table s)
+          (record { number = 0; value = sumOf (reachable clock s); unread = unreadable (paymentsIn (reachable clock s)) }) notSummed refl (λ k. refl);
+      marking = λ clock table s. refused-as (λ a. a .number) (refusalMarks clock table s)
+          (record { number = 0; nodes = map idOf (reached (s .own) clock (s .table)); digest = networkDigest (s .own) clock (s .table) })
           (λ n. record { number = n; nodes = []; digest = replicate 16 0 }) refl (λ k. refl);
-      saves = λ now table room s. refused-as (λ a. a .number) (refusalSave now table room s)
-          (record { number = 0; bytes = saved (s .own) now (s .table) }) (λ n. record { number = n; bytes = [] }) refl (λ k. refl);
+      saves = λ clock table room s. refused-as (λ a. a .number) (refusalSave clock table room s)
+          (record { number = 0; bytes = saved (s .own) clock (s .table) }) (λ n. record { number = n; bytes = [] }) refl (λ k. refl);
       shows = λ n table s h. rw (ne-eqb (refusalShow n table s) 0 h);
     }
 
@@ -133,15 +133,15 @@ pub refusals-exact : RefusalsExact
 unfolding begin resume receive tick ticked pay purge total sum marks save
 refusals-exact =
     record {
-      begins = λ own now rs table s. exact _ refl _ (number-is (λ (d : Done). d .number) (refusalBegin now table) _ _ refl refl);
-      resumes = λ now bytes rs table s. exact _ refl _ (number-is (λ (d : Done). d .number) (refusalResume now bytes table) _ _ refl refl);
+      begins = λ own clock rs table s. exact _ refl _ (number-is (λ (d : Done). d .number) (refusalBegin clock table) _ _ refl refl);
+      resumes = λ clock bytes rs table s. exact _ refl _ (number-is (λ (d : Done). d .number) (refusalResume clock bytes table) _ _ refl refl);
       receives = λ c s. exact _ refl _ (number-is (λ (a : Answer). a .number) (refusalReceive c s) _ _ refl refl);
-      ticks = λ now i rs table room s. exact _ refl _ (number-is (λ (a : Sent). a .number) (refusalTick now i table room s) _ _ refl refl);
-      pays = λ now p rs table s. exact _ refl _ (number-is (λ (d : Done). d .number) (refusalPay now p table s) _ _ refl refl);
-      purges = λ now rs table s. exact _ refl _ (number-is (λ (d : Done). d .number) (refusalPurge now table s) _ _ refl refl);
-      totals = λ now h table s. exact _ refl _ (number-is (λ (a : Summed). a .number) (refusalTotal now h table s) _ _ refl refl);
-      sums = λ now table s. exact _ refl _ (number-is (λ (a : Summed). a .number) (refusalSum now table s) _ _ refl refl);
-      marking = λ now table s. exact _ refl _ (number-is (λ (a : Marks). a .number) (refusalMarks now table s) _ _ refl refl);
-      saves = λ now table room s. exact _ refl _ (number-is (λ (a : Saved). a .number) (refusalSave now table room s) _ _ refl refl);
+      ticks = λ clock i rs table room s. exact _ refl _ (number-is (λ (a : Sent). a .number) (refusalTick clock i table room s) _ _ refl refl);
+      pays = λ clock p rs table s. exact _ refl _ (number-is (λ (d : Done). d .number) (refusalPay clock p table s) _ _ refl refl);
+      purges = λ clock rs table s. exact _ refl _ (number-is (λ (d : Done). d .number) (refusalPurge clock table s) _ _ refl refl);
+      totals = λ clock h table s. exact _ refl _ (number-is (λ (a : Summed). a .number) (refusalTotal clock h table s) _ _ refl refl);
+      sums = λ clock table s. exact _ refl _ (number-is (λ (a : Summed). a .number) (refusalSum clock table s) _ _ refl refl);
+      marking = λ clock table s. exact _ refl _ (number-is (λ (a : Marks). a .number) (refusalMarks clock table s) _ _ refl refl);
+      saves = λ clock table room s. exact _ refl _ (number-is (λ (a : Saved). a .number) (refusalSave clock table room s) _ _ refl refl);
       shows = λ n table s. exact _ refl _ refl;
     }

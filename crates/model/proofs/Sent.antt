@@ -77,9 +77,9 @@ receive-form c s =
 
 -- ---- ticks
 
-pub digest-length : (own now : ℕ) (t : List Entry) → length (networkDigest own now t) ≡ 16
+pub digest-length : (own clock : ℕ) (t : List Entry) → length (networkDigest own clock t) ≡ 16
 unfolding networkDigest digestOf
-digest-length own now t = hash16-length _
+digest-length own clock t = hash16-length _
 
 announced : (own endpoint : ℕ) (d : List ℕ) → length d ≡ 16 → Form own endpoint (endpointTlv own endpoint ++ networkTlv d)
 announced own endpoint d e =
@@ -88,23 +88,23 @@ announced own endpoint d e =
     (omega (arith, length-append (endpointTlv own endpoint) (networkTlv d), endpoint-length own endpoint, encode-length 4 d))
 
 -- what goes out after settling is announced with the digest just taken
-settled-form : (now i : ℕ) (rs : List ℕ) (s : State) (b : Bool) → Form (s .own) i (cond b (announcement i (settle now rs s)) [])
+settled-form : (clock i : ℕ) (rs : List ℕ) (s : State) (b : Bool) → Form (s .own) i (cond b (announcement i (settle clock rs s)) [])
 unfolding settle
-settled-form now i rs s true = announced (s .own) i (networkDigest (s .own) now (s .table)) (digest-length (s .own) now (s .table))
-settled-form now i rs s false = empty-form (s .own) i
+settled-form clock i rs s true = announced (s .own) i (networkDigest (s .own) clock (s .table)) (digest-length (s .own) clock (s .table))
+settled-form clock i rs s false = empty-form (s .own) i
 
-ticked-form : (now i : ℕ) (rs : List ℕ) (s : State) → Form (s .own) i (ticked now i rs s .bytes)
+ticked-form : (clock i : ℕ) (rs : List ℕ) (s : State) → Form (s .own) i (ticked clock i rs s .bytes)
 unfolding ticked
-ticked-form now i rs s =
-    let d : State = dropSilent now i s in
-    subst (λ (n : ℕ). Form n i (ticked now i rs s .bytes)) (silent-own now i s)
-    (settled-form now i rs d (event now (getD rs (pred i) 0) (endpointAt i (settle now rs d) .trickle) .sends))
+ticked-form clock i rs s =
+    let d : State = dropSilent clock i s in
+    subst (λ (n : ℕ). Form n i (ticked clock i rs s .bytes)) (silent-own clock i s)
+    (settled-form clock i rs d (event clock (getD rs (pred i) 0) (endpointAt i (settle clock rs d) .trickle) .sends))
 
-tick-form : (now i : ℕ) (rs : List ℕ) (table room : ℕ) (s : State) → Form (s .own) i (tick now i rs table room s .bytes)
-tick-form now i rs table room s =
-    by-test (eqb (refusalTick now i table room s) 0)
-    (λ e. rw (tick-accepted now i s rs table room (eqb-true (refusalTick now i table room s) 0 e)) (ticked-form now i rs s))
-    (λ e. rw (tick-refused now i s rs table room (eqb-false (refusalTick now i table room s) 0 e)) (empty-form (s .own) i))
+tick-form : (clock i : ℕ) (rs : List ℕ) (table room : ℕ) (s : State) → Form (s .own) i (tick clock i rs table room s .bytes)
+tick-form clock i rs table room s =
+    by-test (eqb (refusalTick clock i table room s) 0)
+    (λ e. rw (tick-accepted clock i s rs table room (eqb-true (refusalTick clock i table room s) 0 e)) (ticked-form clock i rs s))
+    (λ e. rw (tick-refused clock i s rs table room (eqb-false (refusalTick clock i table room s) 0 e)) (empty-form (s .own) i))
 
 -- ---- the statement
 

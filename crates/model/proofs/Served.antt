@@ -30,7 +30,7 @@ use Rattle.model.proofs.Cases.{piece-first, piece-later, reply-fits, re
 
 -- if u is a Node State, it is that of an entry reachable at the moment o, without data or with data; if it is a Network State, it has the digest then
 pub record Fair (c : Context) (o : Work) (u : List ℕ) : Type 0 where
-  pub node : typeOf u ≡ 5 → (e : Entry) × In e (reachedNow c o) × ((u ≡ shortState (c .now) e) ⊎ (u ≡ wholeState (c .now) e))
+  pub node : typeOf u ≡ 5 → (e : Entry) × In e (reachedNow c o) × ((u ≡ shortState (c .clock) e) ⊎ (u ≡ wholeState (c .clock) e))
   pub network : typeOf u ≡ 4 → u ≡ networkTlv (digestNow c o)
 
 fair-other : (c : Context) (o : Work) (y : ℕ) (v : List ℕ) → ¬ (y ≡ 5) → ¬ (y ≡ 4) → Fair c o (encode y v)
@@ -38,7 +38,7 @@ fair-other c o y v n k =
     record { node = λ e. absurd (n (sym (encode-type y v) ∙ e)); network = λ e. absurd (k (sym (encode-type y v) ∙ e)) }
 
 -- a Node State is no Network State
-fair-state : (c : Context) (o : Work) (v : List ℕ) (e : Entry) → In e (reachedNow c o) → (encode 5 v ≡ shortState (c .now) e) ⊎ (encode 5 v ≡ wholeState (c .now) e) → Fair c o (encode 5 v)
+fair-state : (c : Context) (o : Work) (v : List ℕ) (e : Entry) → In e (reachedNow c o) → (encode 5 v ≡ shortState (c .clock) e) ⊎ (encode 5 v ≡ wholeState (c .clock) e) → Fair c o (encode 5 v)
 fair-state c o v e i s = record { node = λ y. (e, i, s); network = λ y. absurd (let z : 5 ≡ 4 = sym (encode-type 5 v) ∙ y in omega arith) }
 
 -- nothing, or our Node Endpoint TLV first
@@ -179,17 +179,17 @@ module _ {o : Work} {c : Context} where
   unfolding onState onOwnState publishAs
   state-writes r w =
       either (eqb (r .node) (w .state .own)) (either (differs (ownEntry (w .state)) r) (still refl refl) (still refl refl))
-      (carry-writes (decide (c .now) (w .state .table) r) w)
+      (carry-writes (decide (c .clock) (w .state .table) r) w)
 
 -- ---- types 1 and 2: the entries reachable at that moment
 
-short-whole : (now : ℕ) (es : List Entry) → Wholes (map (shortState now) es)
-short-whole now [] = tt
-short-whole now (e ∷ es) = (encode-whole 5 (stateHead now e), short-whole now es)
+short-whole : (clock : ℕ) (es : List Entry) → Wholes (map (shortState clock) es)
+short-whole clock [] = tt
+short-whole clock (e ∷ es) = (encode-whole 5 (stateHead clock e), short-whole clock es)
 
-short-fair : (c : Context) (o : Work) (es : List Entry) → ((e : Entry) → In e es → In e (reachedNow c o)) → (u : List ℕ) → In u (map (shortState (c .now)) es) → Fair c o u
+short-fair : (c : Context) (o : Work) (es : List Entry) → ((e : Entry) → In e es → In e (reachedNow c o)) → (u : List ℕ) → In u (map (shortState (c .clock)) es) → Fair c o u
 short-fair c o [] h u m = absurd m
-short-fair c o (e ∷ es) h u (inl q) = rw q (fair-state c o (stateHead (c .now) e) e (h e (inl refl)) (inl refl))
+short-fair c o (e ∷ es) h u (inl q) = rw q (fair-state c o (stateHead (c .clock) e) e (h e (inl refl)) (inl refl))
 short-fair c o (e ∷ es) h u (inr m) = short-fair c o es (λ f k. h f (inr k)) u m
 
 module _ (c : Context) (w : Work) where
@@ -199,26 +199,26 @@ module _ (c : Context) (w : Work) where
   request-network-writes : Writes w c w (onRequestNetwork c w)
   unfolding onRequestNetwork
   request-network-writes =
-      replies-write (networkTlv (digestNow c w) ∷ map (shortState (c .now)) (reachedNow c w)) w
-      (encode-whole 4 (digestNow c w), short-whole (c .now) (reachedNow c w))
+      replies-write (networkTlv (digestNow c w) ∷ map (shortState (c .clock)) (reachedNow c w)) w
+      (encode-whole 4 (digestNow c w), short-whole (c .clock) (reachedNow c w))
       (λ u m. ⊎-elim (λ q. rw q (fair-network (digestNow c w) refl)) (short-fair c w (reachedNow c w) (λ e k. k) u) m)
 
   -- the entry of a reachable node is one of those reached
-  reached-look : (n : ℕ) (e : Entry) → inReach (w .state .own) (c .now) (w .state .table) n ≡ true → look n (w .state .table) ≡ some e → In e (reachedNow c w)
+  reached-look : (n : ℕ) (e : Entry) → inReach (w .state .own) (c .clock) (w .state .table) n ≡ true → look n (w .state .table) ≡ some e → In e (reachedNow c w)
   unfolding reached look
   reached-look n e i l =
       let f : In e (w .state .table) × (idOf e ≡ n) = find-some idOf n e (w .state .table) l in
-      in-keep (λ g. inReach (w .state .own) (c .now) (w .state .table) (idOf g)) e (w .state .table) (f .0) (rw (f .1) i)
+      in-keep (λ g. inReach (w .state .own) (c .clock) (w .state .table) (idOf g)) e (w .state .table) (f .0) (rw (f .1) i)
 
   request-node-writes : (n : ℕ) → Writes w c w (onRequestNode c n w)
   request-node-writes n =
-      by-test (inReach (w .state .own) (c .now) (w .state .table) n) (λ i. go i (look n (w .state .table)) refl) (λ i. rw (request-node-unreachable c w n i) (still refl refl))
+      by-test (inReach (w .state .own) (c .clock) (w .state .table) n) (λ i. go i (look n (w .state .table)) refl) (λ i. rw (request-node-unreachable c w n i) (still refl refl))
     where
-      go : inReach (w .state .own) (c .now) (w .state .table) n ≡ true → (o : Option Entry) → look n (w .state .table) ≡ o → Writes w c w (onRequestNode c n w)
+      go : inReach (w .state .own) (c .clock) (w .state .table) n ≡ true → (o : Option Entry) → look n (w .state .table) ≡ o → Writes w c w (onRequestNode c n w)
       go i none l = rw (request-node-unknown c w n l) (still refl refl)
       go i (some e) l =
           rw (request-node-reached c w n i e l)
-          (reply-writes (wholeState (c .now) e) w (encode-whole 5 (stateHead (c .now) e ++ e .says .nodeData)) (fair-state c w (stateHead (c .now) e ++ e .says .nodeData) e (reached-look n e i l) (inr refl)))
+          (reply-writes (wholeState (c .clock) e) w (encode-whole 5 (stateHead (c .clock) e ++ e .says .nodeData)) (fair-state c w (stateHead (c .clock) e ++ e .says .nodeData) e (reached-look n e i l) (inr refl)))
 
   tlv-writes : (type : ℕ) (v : List ℕ) → Writes w c w (onTlv c type v w)
   unfolding onTlv

@@ -327,26 +327,26 @@ module _ (m : Entry → Bool) (t : List Entry) (i : ℕ) where
         ∙ payments-append (statements (keep m (take i t))) (x .says ∷ [])
         ∙ ap (λ (u : List (List ℕ)). soFar m t i ++ u) (append-nil (paymentsOf (x .says .nodeData)))
 
-pub so-far-reached : (own now : ℕ) (t : List Entry) (i : ℕ) → length t ≤ i → soFar (λ e. inReach own now t (idOf e)) t i ≡ paymentsIn (statements (reached own now t))
+pub so-far-reached : (own clock : ℕ) (t : List Entry) (i : ℕ) → length t ≤ i → soFar (λ e. inReach own clock t (idOf e)) t i ≡ paymentsIn (statements (reached own clock t))
 unfolding reached
-so-far-reached own now t i l = so-far-all (λ e. inReach own now t (idOf e)) t i l
+so-far-reached own clock t i l = so-far-all (λ e. inReach own clock t (idOf e)) t i l
 
-pub reached-fit : (own now last : ℕ) (t : List Entry) → All (EntryFits last) t → All (EntryFits last) (reached own now t)
+pub reached-fit : (own clock last : ℕ) (t : List Entry) → All (EntryFits last) t → All (EntryFits last) (reached own clock t)
 unfolding reached
-reached-fit own now last t h = all-keep (EntryFits last) _ t h
+reached-fit own clock last t h = all-keep (EntryFits last) _ t h
 
-pub reached-few : (own now : ℕ) (t : List Entry) → length (reached own now t) ≤ length t
+pub reached-few : (own clock : ℕ) (t : List Entry) → length (reached own clock t) ≤ length t
 unfolding reached
-reached-few own now t = keep-few _ t
+reached-few own clock t = keep-few _ t
 
 -- the reachable nodes of a valid state publish at most 8,192
-pub payments-most : (s : State) (now : ℕ) → Valid s → length (paymentsIn (reachable now s)) ≤ mostNodes * mostTlvs
-payments-most s now v =
+pub payments-most : (s : State) (clock : ℕ) → Valid s → length (paymentsIn (reachable clock s)) ≤ mostNodes * mostTlvs
+payments-most s clock v =
     let n : length (s .table) ≤ mostNodes = v .inside .table .nodes in
-    omega (arith, payments-room (s .last) (reached (s .own) now (s .table)) (reached-fit (s .own) now (s .last) (s .table) (v .inside .table .entries)), reached-few (s .own) now (s .table))
+    omega (arith, payments-room (s .last) (reached (s .own) clock (s .table)) (reached-fit (s .own) clock (s .last) (s .table) (v .inside .table .entries)), reached-few (s .own) clock (s .table))
 
-tally-fits : (f : Payment → Bool) (s : State) (now : ℕ) → Valid s → mag (tally f (paymentsIn (reachable now s))) < 2 ^ 63
-tally-fits f s now v = omega (arith, tally-mag f (paymentsIn (reachable now s)), payments-most s now v)
+tally-fits : (f : Payment → Bool) (s : State) (clock : ℕ) → Valid s → mag (tally f (paymentsIn (reachable clock s))) < 2 ^ 63
+tally-fits f s clock v = omega (arith, tally-mag f (paymentsIn (reachable clock s)), payments-most s clock v)
 
 -- ---- the sum over all households
 
@@ -428,13 +428,13 @@ totals-add-up =
       node = λ h s. rw (total-is h (s ∷ []), payments-node s) (tally-each h (tlvs (s .nodeData)));
       nodes = λ h s ss. total-nodes h (s ∷ []) ss;
       all = all-households;
-      total = λ s now h v. rw (total-is h (reachable now s)) (tally-fits (ofHousehold h) s now v);
-      sum = λ s now v. rw (sum-is (reachable now s)) (tally-fits anyPayment s now v);
+      total = λ s clock h v. rw (total-is h (reachable clock s)) (tally-fits (ofHousehold h) s clock v);
+      sum = λ s clock v. rw (sum-is (reachable clock s)) (tally-fits anyPayment s clock v);
       single = λ h node seq p k. total-single p k (record { node = node; seq = seq; nodeData = paymentTlv p }) refl h;
       unread = λ s. rw (payments-node s) (unreadable-each (tlvs (s .nodeData)));
       unreads = λ s ss. ap unreadable (payments-append (s ∷ []) ss) ∙ unreadable-append (paymentsIn (s ∷ [])) (paymentsIn ss);
       counted = payments-counted;
-      count = λ s now v. omega (arith, payments-counted (paymentsIn (reachable now s)), payments-most s now v);
-      totals = λ now h table s e. rw e;
-      sums = λ now table s e. rw e;
+      count = λ s clock v. omega (arith, payments-counted (paymentsIn (reachable clock s)), payments-most s clock v);
+      totals = λ clock h table s e. rw e;
+      sums = λ clock table s e. rw e;
     }

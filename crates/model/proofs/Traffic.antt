@@ -44,21 +44,21 @@ module _ (c : Context) (t : List ℕ) (w : Work) (b : aboutOther (w .state .own)
       same-node : (n : ℕ) → not (eqb n n) ≡ false
       same-node n = by-test (eqb n n) (λ q. rw q) (λ q. absurd (eqb-false n n q refl))
 
-  other-seen : seen (oneTlv c t w .state) ≡ (w .state .own, after (decide (c .now) (w .state .table) (receivedOf (valueOf t))) (w .state .table))
+  other-seen : seen (oneTlv c t w .state) ≡ (w .state .own, after (decide (c .clock) (w .state .table) (receivedOf (valueOf t))) (w .state .table))
   other-seen =
       let p = and-left (eqb (typeOf t) 5 && leb 28 (length (valueOf t))) _ b in
       one-seen c t w
       ∙ ap (λ (v : Work). seen (v .state))
       (on-state c (typeOf t) (valueOf t) w (eqb-true (typeOf t) 5 (and-left (eqb (typeOf t) 5) _ p)) (and-right (eqb (typeOf t) 5) _ p)
       ∙ on-foreign c (receivedOf (valueOf t)) w foreign-node)
-      ∙ carry-seen c (decide (c .now) (w .state .table) (receivedOf (valueOf t))) w
+      ∙ carry-seen c (decide (c .clock) (w .state .table) (receivedOf (valueOf t))) w
 
 -- the table stays in order, TLV by TLV
 module _ (c : Context) where
   one-sorted : (t : List ℕ) (w : Work) → Ascending idOf (w .state .table) → Ascending idOf (oneTlv c t w .state .table)
   one-sorted t w h =
       by-test (aboutOther (w .state .own) t)
-      (λ b. rw (ap (λ (p : ℕ × List Entry). p .1) (other-seen c t w b)) (after-sorted (decide (c .now) (w .state .table) (receivedOf (valueOf t))) (w .state .table) h))
+      (λ b. rw (ap (λ (p : ℕ × List Entry). p .1) (other-seen c t w b)) (after-sorted (decide (c .clock) (w .state .table) (receivedOf (valueOf t))) (w .state .table) h))
       (λ b. one-aside c t w b .sorted h)
 
   pub all-sorted : (ts : List (List ℕ)) (w : Work) → Ascending idOf (w .state .table) → Ascending idOf (allTlvs c ts w .state .table)
@@ -138,13 +138,13 @@ module _ (all : List Statement) (a : Agreed all) (own : ℕ) (nodes : List ℕ) 
         same-own : oneTlv c t w .state .own ≡ own
         same-own = ap (λ (p : ℕ × List Entry). p .0) (other-seen c t w b) ∙ g .same
 
-        table-is : oneTlv c t w .state .table ≡ after (decide (c .now) (w .state .table) (receivedOf (valueOf t))) (w .state .table)
+        table-is : oneTlv c t w .state .table ≡ after (decide (c .clock) (w .state .table) (receivedOf (valueOf t))) (w .state .table)
         table-is = ap (λ (p : ℕ × List Entry). p .1) (other-seen c t w b)
 
         still-sorted : Ascending idOf (oneTlv c t w .state .table)
-        still-sorted = rw table-is (after-sorted (decide (c .now) (w .state .table) (receivedOf (valueOf t))) (w .state .table) (g .sorted))
+        still-sorted = rw table-is (after-sorted (decide (c .clock) (w .state .table) (receivedOf (valueOf t))) (w .state .table) (g .sorted))
 
-        other-going : Outcome (c .now) (w .state .table) (receivedOf (valueOf t)) → Going zs (oneTlv c t w .state)
+        other-going : Outcome (c .clock) (w .state .table) (receivedOf (valueOf t)) → Going zs (oneTlv c t w .state)
         other-going (inl i) =
             unheard (saidIn (w .state .table) (receivedOf (valueOf t))) (heard-other (w .state) t b) (i .0)
             (record { same = same-own; sorted = still-sorted; newest = subst (Newest all a ys) (ap (apart own) (sym (ap statements table-is ∙ i .1))) (g .newest) })
@@ -157,7 +157,7 @@ module _ (all : List Statement) (a : Agreed all) (own : ℕ) (nodes : List ℕ) 
 
       one-going : Going zs (oneTlv c t w .state)
       one-going =
-          by-test (aboutOther (w .state .own) t) (λ b. other-going b (outcome (c .now) (w .state .table) (receivedOf (valueOf t))))
+          by-test (aboutOther (w .state .own) t) (λ b. other-going b (outcome (c .clock) (w .state .table) (receivedOf (valueOf t))))
           (λ b. unheard [] (heard-none (w .state) t b) refl (aside ys (w .state) (oneTlv c t w .state) (one-aside c t w b) g))
 
     all-going : (ts : List (List ℕ)) (w : Work) (ys zs : List Statement) → ys ++ heardAll c ts w ≡ zs → Within zs all → Going ys (w .state) → Going zs (allTlvs c ts w .state)
@@ -184,10 +184,10 @@ module _ (all : List Statement) (a : Agreed all) (own : ℕ) (nodes : List ℕ) 
         sorted = λ l. rw (ap (λ (p : ℕ × List Entry). p .1) e) l;
       }) h)
       (λ b. let z : ys ≡ zs = sym (append-nil ys) ∙ rw b at q in rw (refused-same s c b) (subst (λ (l : List Statement). Going l s) z g))
-  turn-going (Turn.ticks now i rs table room) s ys zs q k g =
-      subst (λ (l : List Statement). Going l (turned s (Turn.ticks now i rs table room))) (sym (append-nil ys) ∙ q) (aside ys s _ (tick-aside now s i rs table room) g)
-  turn-going (Turn.pays now p rs table) s ys zs q k g =
-      subst (λ (l : List Statement). Going l (turned s (Turn.pays now p rs table))) (sym (append-nil ys) ∙ q) (aside ys s _ (pay-aside now s p rs table) g)
+  turn-going (Turn.ticks clock i rs table room) s ys zs q k g =
+      subst (λ (l : List Statement). Going l (turned s (Turn.ticks clock i rs table room))) (sym (append-nil ys) ∙ q) (aside ys s _ (tick-aside clock s i rs table room) g)
+  turn-going (Turn.pays clock p rs table) s ys zs q k g =
+      subst (λ (l : List Statement). Going l (turned s (Turn.pays clock p rs table))) (sym (append-nil ys) ∙ q) (aside ys s _ (pay-aside clock s p rs table) g)
 
   turns-going : (xs : List Turn) (s : State) (ys zs : List Statement) → ys ++ heardOver s xs ≡ zs → Within zs all → Going ys s → Going zs (turns s xs)
   unfolding heardOver turns
@@ -251,8 +251,8 @@ heard-only s t x m =
 
 turn-own : (x : Turn) (s : State) → turned s x .own ≡ s .own
 turn-own (Turn.receives c) s = receive-own c s
-turn-own (Turn.ticks now i rs table room) s = tick-own now i rs table room s
-turn-own (Turn.pays now p rs table) s = pay-own now p rs table s
+turn-own (Turn.ticks clock i rs table room) s = tick-own clock i rs table room s
+turn-own (Turn.pays clock p rs table) s = pay-own clock p rs table s
 
 own-stays : (s : State) (xs : List Turn) → turns s xs .own ≡ s .own
 unfolding turns

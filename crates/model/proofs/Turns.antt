@@ -49,52 +49,52 @@ isDropped (Decision.takeNumber e) = false
 isDropped (Decision.takeAll e) = false
 
 -- what is wanted is not dropped
-module _ (now : ℕ) (r : Received) where
-  data-kept : (d : List ℕ) → isDropped (withData now r d) ≡ false
+module _ (clock : ℕ) (r : Received) where
+  data-kept : (d : List ℕ) → isDropped (withData clock r d) ≡ false
   unfolding withData
   data-kept d = by-test (good dataLimit d && same (hash16 d) (r .hash)) (λ b. rw b) (λ b. rw b)
 
-  number-kept : (e : Entry) → isDropped (withoutData now r e) ≡ false
+  number-kept : (e : Entry) → isDropped (withoutData clock r e) ≡ false
   unfolding withoutData
   number-kept e = by-test (same (hash16 (e .says .nodeData)) (r .hash)) (λ b. rw b) (λ b. rw b)
 
-  new-kept : isDropped (wantedNew now r) ≡ false
+  new-kept : isDropped (wantedNew clock r) ≡ false
   unfolding wantedNew
-  new-kept = by-or-else (λ (d : Decision). isDropped d ≡ false) (r .carried) (Decision.ask (r .node)) (withData now r) (λ o. refl) (λ d o. data-kept d)
+  new-kept = by-or-else (λ (d : Decision). isDropped d ≡ false) (r .carried) (Decision.ask (r .node)) (withData clock r) (λ o. refl) (λ d o. data-kept d)
 
-  held-kept : (e : Entry) → isDropped (wantedHeld now r e) ≡ false
+  held-kept : (e : Entry) → isDropped (wantedHeld clock r e) ≡ false
   unfolding wantedHeld
-  held-kept e = by-or-else (λ (d : Decision). isDropped d ≡ false) (r .carried) (withoutData now r e) (withData now r) (λ o. number-kept e) (λ d o. data-kept d)
+  held-kept e = by-or-else (λ (d : Decision). isDropped d ≡ false) (r .carried) (withoutData clock r e) (withData clock r) (λ o. number-kept e) (λ d o. data-kept d)
 
-  known-kept : (t : List Entry) (e : Entry) → look (r .node) t ≡ some e → isDropped (decide now t r) ≡ false
+  known-kept : (t : List Entry) (e : Entry) → look (r .node) t ≡ some e → isDropped (decide clock t r) ≡ false
   unfolding decide
   known-kept t e l = rw l (by-test (differs e r) (λ b. rw b (held-kept e)) (λ b. rw b))
 
-  room-kept : (t : List Entry) → look (r .node) t ≡ none → length t < mostNodes → isDropped (decide now t r) ≡ false
+  room-kept : (t : List Entry) → look (r .node) t ≡ none → length t < mostNodes → isDropped (decide clock t r) ≡ false
   unfolding decide
   room-kept t l h = rw (l, lt-leb mostNodes (length t) h) new-kept
 
-  full-dropped : (t : List Entry) → look (r .node) t ≡ none → mostNodes ≤ length t → decide now t r ≡ Decision.dropped
+  full-dropped : (t : List Entry) → look (r .node) t ≡ none → mostNodes ≤ length t → decide clock t r ≡ Decision.dropped
   unfolding decide
   full-dropped t l h = rw (l, le-leb mostNodes (length t) h)
 
-  dropped-full : (t : List Entry) → decide now t r ≡ Decision.dropped → (look (r .node) t ≡ none) × (mostNodes ≤ length t)
+  dropped-full : (t : List Entry) → decide clock t r ≡ Decision.dropped → (look (r .node) t ≡ none) × (mostNodes ≤ length t)
   dropped-full t e =
-      let y : isDropped (decide now t r) ≡ true = rw e in
+      let y : isDropped (decide clock t r) ≡ true = rw e in
       by-option (look (r .node) t)
       (λ l. by-test (leb mostNodes (length t)) (λ b. (l, leb-true mostNodes (length t) b))
-      (λ b. no-way (isDropped (decide now t r)) y (room-kept t l (leb-false mostNodes (length t) b))))
-      (λ g l. no-way (isDropped (decide now t r)) y (known-kept t g l))
+      (λ b. no-way (isDropped (decide clock t r)) y (room-kept t l (leb-false mostNodes (length t) b))))
+      (λ g l. no-way (isDropped (decide clock t r)) y (known-kept t g l))
 
 pub counts-exact : CountsExact
 counts-exact =
     record {
       written = λ c t w h. reply-fits c t w (le-leb (length (w .out) + length (piece c t w)) mostBytes h);
       omitted = λ c t w h. reply-full c t w (lt-leb (length (w .out) + length (piece c t w)) mostBytes h);
-      held = λ c w h. ask-held c w (lt-leb (endpointAt (c .endpoint) (w .state) .next) (c .now) h);
+      held = λ c w h. ask-held c w (lt-leb (endpointAt (c .endpoint) (w .state) .next) (c .clock) h);
       peers = λ c f w e. greet-full c w f e;
       nodes = carry-dropped;
-      full = λ now t r. (dropped-full now r t, λ h. full-dropped now r t (h .0) (h .1));
+      full = λ clock t r. (dropped-full clock r t, λ h. full-dropped clock r t (h .0) (h .1));
     }
 
 -- ---- an empty node
@@ -104,10 +104,10 @@ empty-good : good dataLimit [] ≡ true
 unfolding good row rowOf ascending
 empty-good = refl
 
-new-empty : (now : ℕ) (t : List Entry) (r : Received) → r .carried ≡ some [] → same (hash16 []) (r .hash) ≡ true → look (r .node) t ≡ none → length t < mostNodes
-    → decide now t r ≡ Decision.takeAll (entryOf (r .node) (r .seq) [] (r .age) now)
+new-empty : (clock : ℕ) (t : List Entry) (r : Received) → r .carried ≡ some [] → same (hash16 []) (r .hash) ≡ true → look (r .node) t ≡ none → length t < mostNodes
+    → decide clock t r ≡ Decision.takeAll (entryOf (r .node) (r .seq) [] (r .age) clock)
 unfolding decide wantedNew withData
-new-empty now t r carried hash new room = rw (new, lt-leb mostNodes (length t) room, carried, empty-good, hash)
+new-empty clock t r carried hash new room = rw (new, lt-leb mostNodes (length t) room, carried, empty-good, hash)
 
 carried-empty : (h d : List ℕ) → h ≡ hash16 [] → d ≡ [] → carriedIn h d ≡ some []
 carried-empty h d p q = rw (q, p, same-self)
@@ -117,25 +117,25 @@ not-older : (n : ℕ) → older n n ≡ false
 unfolding older offset
 not-older n = lt-leb half ((n + circle - n) % circle) (omega arith)
 
-same-ignored : (now : ℕ) (t : List Entry) (r : Received) (e : Entry) → look (r .node) t ≡ some e → e .says .seq ≡ r .seq
-    → same (hash16 (e .says .nodeData)) (r .hash) ≡ true → decide now t r ≡ Decision.ignored
+same-ignored : (clock : ℕ) (t : List Entry) (r : Received) (e : Entry) → look (r .node) t ≡ some e → e .says .seq ≡ r .seq
+    → same (hash16 (e .says .nodeData)) (r .hash) ≡ true → decide clock t r ≡ Decision.ignored
 unfolding decide differs
-same-ignored now t r e l q h = rw (l, q, h, not-older (r .seq), eq-eqb (r .seq) (r .seq) refl)
+same-ignored clock t r e l q h = rw (l, q, h, not-older (r .seq), eq-eqb (r .seq) (r .seq) refl)
 
 pub empty-taken : EmptyTaken
 unfolding receivedOf look put
 empty-taken = record { taken = short-taken; again = short-again }
   where
-    short-taken : (now : ℕ) (t : List Entry) (v : List ℕ) → length v ≡ 28 → take 16 (drop 12 v) ≡ hash16 [] → look (u32At v 0) t ≡ none
-        → length t < mostNodes → decide now t (receivedOf v) ≡ Decision.takeAll (entryOf (u32At v 0) (u32At v 4) [] (u32At v 8) now)
-    short-taken now t v l h new room =
+    short-taken : (clock : ℕ) (t : List Entry) (v : List ℕ) → length v ≡ 28 → take 16 (drop 12 v) ≡ hash16 [] → look (u32At v 0) t ≡ none
+        → length t < mostNodes → decide clock t (receivedOf v) ≡ Decision.takeAll (entryOf (u32At v 0) (u32At v 4) [] (u32At v 8) clock)
+    short-taken clock t v l h new room =
         let none-left : drop 28 v ≡ [] = drop-of-length-le v {i = 28} (omega arith) in
-        new-empty now t (receivedOf v) (carried-empty (take 16 (drop 12 v)) (drop 28 v) h none-left) (rw (h, same-self)) new room
+        new-empty clock t (receivedOf v) (carried-empty (take 16 (drop 12 v)) (drop 28 v) h none-left) (rw (h, same-self)) new room
 
-    short-again : (now later : ℕ) (t : List Entry) (v : List ℕ) → length v ≡ 28 → take 16 (drop 12 v) ≡ hash16 []
-        → decide later (put (entryOf (u32At v 0) (u32At v 4) [] (u32At v 8) now) t) (receivedOf v) ≡ Decision.ignored
-    short-again now later t v l h =
-        let e : Entry = entryOf (u32At v 0) (u32At v 4) [] (u32At v 8) now in
+    short-again : (clock later : ℕ) (t : List Entry) (v : List ℕ) → length v ≡ 28 → take 16 (drop 12 v) ≡ hash16 []
+        → decide later (put (entryOf (u32At v 0) (u32At v 4) [] (u32At v 8) clock) t) (receivedOf v) ≡ Decision.ignored
+    short-again clock later t v l h =
+        let e : Entry = entryOf (u32At v 0) (u32At v 4) [] (u32At v 8) clock in
         same-ignored later (put e t) (receivedOf v) e (find-inserted idOf e t) refl (rw (h, same-self))
 
 -- ---- a foreign digest
@@ -143,7 +143,7 @@ empty-taken = record { taken = short-taken; again = short-again }
 -- asking leaves every Trickle state: it sets only from when the next request may go out
 asked-trickles : (c : Context) (s : State) → trickles (hasAsked c s) ≡ trickles s
 asked-trickles c s =
-    map-set-same (λ (e : Endpoint). e .trickle) (s .endpoints) (pred (c .endpoint)) (withNext (c .now + requestGap) (endpointAt (c .endpoint) s)) noEndpoint
+    map-set-same (λ (e : Endpoint). e .trickle) (s .endpoints) (pred (c .endpoint)) (withNext (c .clock + requestGap) (endpointAt (c .endpoint) s)) noEndpoint
     refl
 
 ask-trickles : (c : Context) (w : Work) → trickles (askNetwork c w .state) ≡ trickles (w .state)

@@ -17,16 +17,16 @@ pub record Done : Type 0 where
 
 -- "Beginning and resuming start all endpoints afresh with I = 200"; nothing is requested yet
 abbrev pub freshEndpoints : ℕ → List ℕ → List Endpoint
-freshEndpoints now randoms = map (λ r. record { trickle = fresh now leastInterval r; next = 0 }) randoms
+freshEndpoints clock randoms = map (λ r. record { trickle = fresh clock leastInterval r; next = 0 }) randoms
 
 -- a state with a table, no peers, and every endpoint started
 unfoldable pub started : ℕ → ℕ → List ℕ → List Entry → State
-started own now randoms t =
-    record { own = own; last = now; table = t; peers = []; endpoints = freshEndpoints now randoms; digest = networkDigest own now t }
+started own clock randoms t =
+    record { own = own; last = clock; table = t; peers = []; endpoints = freshEndpoints clock randoms; digest = networkDigest own clock t }
 
 -- "A beginning holds our box alone: number 0, empty data, age 0, no peers, nothing asked yet"
 unfoldable pub begun : ℕ → ℕ → List ℕ → State
-begun own now randoms = started own now randoms (entryOf own 0 [] 0 now ∷ [])
+begun own clock randoms = started own clock randoms (entryOf own 0 [] 0 clock ∷ [])
 
 -- the state to start from: that of node 0 begun at reading 0 with random numbers 0
 unfoldable pub blank : State
@@ -34,9 +34,9 @@ blank = begun 0 0 (0 ∷ 0 ∷ 0 ∷ 0 ∷ [])
 
 -- `table` is the length of the lent table memory
 abbrev pub refusalBegin : ℕ → ℕ → ℕ
-refusalBegin now table = firstOf (late now ∷ smallTable table ∷ [])
+refusalBegin clock table = firstOf (late clock ∷ smallTable table ∷ [])
 
 unfoldable pub begin : ℕ → ℕ → List ℕ → ℕ → State → Done
-begin own now randoms table s =
-    let n : ℕ = refusalBegin now table in
-    cond (eqb n 0) (record { number = 0; state = begun own now randoms }) (record { number = n; state = s })
+begin own clock randoms table s =
+    let n : ℕ = refusalBegin clock table in
+    cond (eqb n 0) (record { number = 0; state = begun own clock randoms }) (record { number = n; state = s })

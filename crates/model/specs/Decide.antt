@@ -47,22 +47,22 @@ pub data Decision : Type 0 where
 
 -- "number, age and data are taken"
 abbrev pub taken : ℕ → Received → List ℕ → Entry
-taken now r d = entryOf (r .node) (r .seq) d (r .age) now
+taken clock r d = entryOf (r .node) (r .seq) d (r .age) clock
 
 -- "With data: ignored unless good and H matches"
 unfoldable pub withData : ℕ → Received → List ℕ → Decision
-withData now r d = cond (good dataLimit d && same (hash16 d) (r .hash)) (takeAll (taken now r d)) ignored
+withData clock r d = cond (good dataLimit d && same (hash16 d) (r .hash)) (takeAll (taken clock r d)) ignored
 
 -- "Without data: if H differs from ours or we have none, reply Request Node State; else take number and age and keep the data"
 unfoldable pub withoutData : ℕ → Received → Entry → Decision
-withoutData now r e =
-    cond (same (hash16 (e .says .nodeData)) (r .hash)) (takeNumber (taken now r (e .says .nodeData))) (ask (r .node))
+withoutData clock r e =
+    cond (same (hash16 (e .says .nodeData)) (r .hash)) (takeNumber (taken clock r (e .says .nodeData))) (ask (r .node))
 
 unfoldable pub wantedNew : ℕ → Received → Decision
-wantedNew now r = orElse (r .carried) (ask (r .node)) (withData now r)
+wantedNew clock r = orElse (r .carried) (ask (r .node)) (withData clock r)
 
 unfoldable pub wantedHeld : ℕ → Received → Entry → Decision
-wantedHeld now r e = orElse (r .carried) (withoutData now r e) (withData now r)
+wantedHeld clock r e = orElse (r .carried) (withoutData clock r e) (withData clock r)
 
 -- "ours is older, or numbers are equal and digests differ"
 unfoldable pub differs : Entry → Received → Bool
@@ -70,9 +70,9 @@ differs e r = older (e .says .seq) (r .seq) || (eqb (e .says .seq) (r .seq) && n
 
 -- "A new box with 32 held is dropped for room before any of this. Not wanted: nothing."
 unfoldable pub decide : ℕ → List Entry → Received → Decision
-decide now t r =
-    orElse (look (r .node) t) (cond (leb mostNodes (length t)) dropped (wantedNew now r))
-    (λ e. cond (differs e r) (wantedHeld now r e) ignored)
+decide clock t r =
+    orElse (look (r .node) t) (cond (leb mostNodes (length t)) dropped (wantedNew clock r))
+    (λ e. cond (differs e r) (wantedHeld clock r e) ignored)
 
 -- the table after the decision
 unfoldable pub after : Decision → List Entry → List Entry

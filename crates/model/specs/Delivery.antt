@@ -119,15 +119,15 @@ abbrev pub SameHeard : State → List Call → List Call → Type 0
 SameHeard s cs ds = (x : Statement) → In x (heard s cs) ↔ In x (heard s ds)
 
 abbrev pub Under : ℕ → List Entry → Type 0
-Under now t = (e : Entry) → In e t → underAge now e ≡ true
+Under clock t = (e : Entry) → In e t → underAge clock e ≡ true
 
 -- "leave the same table apart from ages. At any reading .., with every entry in both tables under age, marks and network digest are the same too"
 pub record Alike (s : State) (cs ds : List Call) : Type 0 where
   pub table : statements (run s cs .table) ≡ statements (run s ds .table)
-  pub marks : (now : ℕ) → Under now (run s cs .table) → Under now (run s ds .table) → (n : ℕ)
-      → inReach (run s cs .own) now (run s cs .table) n ≡ inReach (run s ds .own) now (run s ds .table) n
-  pub digest : (now : ℕ) → Under now (run s cs .table) → Under now (run s ds .table)
-      → networkDigest (run s cs .own) now (run s cs .table) ≡ networkDigest (run s ds .own) now (run s ds .table)
+  pub marks : (clock : ℕ) → Under clock (run s cs .table) → Under clock (run s ds .table) → (n : ℕ)
+      → inReach (run s cs .own) clock (run s cs .table) n ≡ inReach (run s ds .own) clock (run s ds .table) n
+  pub digest : (clock : ℕ) → Under clock (run s cs .table) → Under clock (run s ds .table)
+      → networkDigest (run s cs .own) clock (run s cs .table) ≡ networkDigest (run s ds .own) clock (run s ds .table)
 
 -- the order of delivery can't lose a payment: both halves
 pub record OrderLosesNothing : Type 0 where

@@ -16,4 +16,4 @@ unfoldable pub digestOf : List Statement → List ℕ
 digestOf ss = hash16 (joinAll (map digestPart ss))
 
 unfoldable pub networkDigest : ℕ → ℕ → List Entry → List ℕ
-networkDigest own now t = digestOf (statements (reached own now t))
+networkDigest own clock t = digestOf (statements (reached own clock t))

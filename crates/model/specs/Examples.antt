@@ -7,11 +7,11 @@ use lib.ListN.{length, drop, replicate}
 use lib.Dec.{eqb}
 use lib.IntN.{pos, negsuc}
 use Rattle.base.specs.Lists.{all, isSome, joinAll, orElse}
-use Rattle.base.specs.Bytes.{big32, same}
+use Rattle.base.specs.Bytes.{big32, same, mostU32}
 use Rattle.wire.specs.Row.{valueOf, encode}
 use Rattle.wire.specs.Groups.{groups, readGroups}
 use Rattle.wire.specs.Payment.{Payment, folded, paymentTlv}
-use Rattle.model.specs.Figures.{usualInterval, wide, tableBytes, mostBytes, snapshotBytes}
+use Rattle.model.specs.Figures.{usualInterval, tableBytes, mostBytes, snapshotBytes}
 use Rattle.model.specs.Sequence.{older}
 use Rattle.model.specs.Table.{Entry, entryOf, statements}
 use Rattle.model.specs.Reach.{inReach}
@@ -57,7 +57,7 @@ examples =
     (older 0 2147483648 && older 2147483648 0) ∷
     not (older 2147483647 0) ∷
     (same (groups 300) (0xAC ∷ 2 ∷ []) && same (groups 128) (0x80 ∷ 1 ∷ [])) ∷
-    not (isSome (readGroups wide (0xAC ∷ 0x82 ∷ 0 ∷ []))) ∷
+    not (isSome (readGroups mostU32 (0xAC ∷ 0x82 ∷ 0 ∷ []))) ∷
     eqb (folded (negsuc 2147483647)) 4294967295 ∷
     same (encode 123 (0x78 ∷ [])) (0 ∷ 0x7B ∷ 0 ∷ 1 ∷ 0x78 ∷ 0 ∷ 0 ∷ 0 ∷ []) ∷
     same (paymentTlv samplePayment) (drop 7 sample) ∷
@@ -94,7 +94,7 @@ abbrev pub noughts4 : List ℕ
 noughts4 = replicate 4 0
 
 abbrev pub at : ℕ → Bool → List ℕ → Call
-at now unicast d = record { now = now; endpoint = 1; unicast = unicast; datagram = d; randoms = noughts4; table = tableBytes; room = mostBytes }
+at clock unicast d = record { clock = clock; endpoint = 1; unicast = unicast; datagram = d; randoms = noughts4; table = tableBytes; room = mostBytes }
 
 -- a Node Endpoint and a Network State
 abbrev pub greeting : List ℕ → List ℕ
@@ -139,7 +139,7 @@ payer = pay 1 samplePayment noughts4 tableBytes first .state
 
 -- after a tick of an endpoint, and after resuming at reading 9 what the third state saves at 4
 abbrev pub tickedAt : ℕ → ℕ → State → State
-tickedAt now i s = tick now i noughts4 tableBytes mostBytes s .state
+tickedAt clock i s = tick clock i noughts4 tableBytes mostBytes s .state
 
 abbrev pub again : State
 again = resume 9 (saved 1 4 (third .table)) noughts4 tableBytes first .state

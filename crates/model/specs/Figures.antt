@@ -1,4 +1,5 @@
 -- Every figure of document 01, once (Figures; In reach; Ticks). Assumes nothing.
+use Rattle.base.specs.Bytes.{mostU32}
 use Prim.Native.Nat.{ℕ, _*_}
 
 -- nodes with our own, and bytes of node data each; the table memory has a slot for each
@@ -54,7 +55,7 @@ abbrev pub refreshAge : ℕ
 refreshAge = 4294901760
 
 abbrev pub mostAge : ℕ
-mostAge = 4294967295
+mostAge = mostU32
 
 -- the interval of a peer that publishes no Keep-Alive TLV for its endpoint
 abbrev pub usualInterval : ℕ
@@ -67,7 +68,3 @@ reclaimStep = 1000
 -- bytes of a Peer TLV
 abbrev pub peerBytes : ℕ
 peerBytes = 16
-
--- the largest number of 32 bits
-abbrev pub wide : ℕ
-wide = 4294967295

@@ -20,7 +20,7 @@ use Rattle.model.specs.Decide.{Received, Decision, receivedOf, differs, 
 
 -- what holds for every TLV of a call; `others`: "a Node State of length 28 or more about another box is in this datagram"
 pub record Context : Type 0 where
-  pub now : ℕ
+  pub clock : ℕ
   pub endpoint : ℕ
   pub unicast : Bool
   pub others : Bool
@@ -72,10 +72,10 @@ replies c (t ∷ ts) w = replies c ts (reply c t w)
 -- ---- asking: "at most once per endpoint in 200 ms (at 200 again), counted from one that was written"
 
 abbrev pub mayAsk : Context → Work → Bool
-mayAsk c w = leb (endpointAt (c .endpoint) (w .state) .next) (c .now)
+mayAsk c w = leb (endpointAt (c .endpoint) (w .state) .next) (c .clock)
 
 abbrev pub hasAsked : Context → State → State
-hasAsked c s = withEndpoint (c .endpoint) (withNext (c .now + requestGap) (endpointAt (c .endpoint) s)) s
+hasAsked c s = withEndpoint (c .endpoint) (withNext (c .clock + requestGap) (endpointAt (c .endpoint) s)) s
 
 -- one that is held back is not counted as left out; one that does not fit is, and does not count as written
 unfoldable pub askNetwork : Context → Work → Work
@@ -86,7 +86,7 @@ askNetwork c w =
 -- ---- the sender's last contact, if it is a peer, becomes now
 
 abbrev pub touchBy : Context → Sender → State → State
-touchBy c f s = withPeers (map (contacted (f .node) (f .endpoint) (c .endpoint) (c .now)) (s .peers)) s
+touchBy c f s = withPeers (map (contacted (f .node) (f .endpoint) (c .endpoint) (c .clock)) (s .peers)) s
 
 unfoldable pub touch : Context → Work → Work
 touch c w = orElse (w .sender) w (λ f. withState (touchBy c f (w .state)) w)
@@ -94,27 +94,27 @@ touch c w = orElse (w .sender) w (λ f. withState (touchBy c f (w .state)) w)
 -- ---- "Marks and digest are always those of the definitions at the call's reading, also between two TLVs"
 
 abbrev pub digestNow : Context → Work → List ℕ
-digestNow c w = networkDigest (w .state .own) (c .now) (w .state .table)
+digestNow c w = networkDigest (w .state .own) (c .clock) (w .state .table)
 
 abbrev pub reachedNow : Context → Work → List Entry
-reachedNow c w = reached (w .state .own) (c .now) (w .state .table)
+reachedNow c w = reached (w .state .own) (c .clock) (w .state .table)
 
 -- ---- type 1: "reply Network State, then a Node State without data for each box in reach, ascending"
 
 unfoldable pub onRequestNetwork : Context → Work → Work
-onRequestNetwork c w = replies c (networkTlv (digestNow c w) ∷ map (shortState (c .now)) (reachedNow c w)) w
+onRequestNetwork c w = replies c (networkTlv (digestNow c w) ∷ map (shortState (c .clock)) (reachedNow c w)) w
 
 -- ---- type 2: "if that box is in reach, reply its Node State with data; else nothing"
 
 unfoldable pub onRequestNode : Context → ℕ → Work → Work
 onRequestNode c n w =
-    cond (inReach (w .state .own) (c .now) (w .state .table) n)
-    (orElse (look n (w .state .table)) w (λ e. reply c (wholeState (c .now) e) w)) w
+    cond (inReach (w .state .own) (c .clock) (w .state .table) n)
+    (orElse (look n (w .state .table)) w (λ e. reply c (wholeState (c .clock) e) w)) w
 
 -- ---- type 3
 
 abbrev pub newPeer : Context → Sender → Peer
-newPeer c f = record { node = f .node; theirs = f .endpoint; ours = c .endpoint; contact = c .now }
+newPeer c f = record { node = f .node; theirs = f .endpoint; ours = c .endpoint; contact = c .clock }
 
 -- "if fewer than 16 stand and our data has 16 bytes left"
 abbrev pub roomForPeer : State → Bool
@@ -122,10 +122,10 @@ roomForPeer s = ltb (length (s .peers)) mostPeers && leb (length (ownData s) + p
 
 -- "it becomes a peer .., with last contact now, and we publish the Peer TLV"
 unfoldable pub addPeer : ℕ → Peer → State → State
-addPeer now p s = withPeers (s .peers ++ (p ∷ [])) (publish now (withTlv (peerTlv p) (ownData s)) s)
+addPeer clock p s = withPeers (s .peers ++ (p ∷ [])) (publish clock (withTlv (peerTlv p) (ownData s)) s)
 
 unfoldable pub greet : Context → Sender → Work → Work
-greet c f w = cond (roomForPeer (w .state)) (withState (addPeer (c .now) (newPeer c f) (w .state)) w) (dropOne w)
+greet c f w = cond (roomForPeer (w .state)) (withState (addPeer (c .clock) (newPeer c f) (w .state)) w) (dropOne w)
 
 abbrev pub knows : Context → Sender → State → Bool
 knows c f s = any (isPeer (f .node) (f .endpoint) (c .endpoint)) (s .peers)
@@ -143,11 +143,11 @@ onEndpoint c f w =
 -- ---- type 4
 
 -- "over multicast c goes up by one"
-abbrev pub heard : Context → State → State
-heard c s = withEndpoint (c .endpoint) (withTrickle (hear (endpointAt (c .endpoint) s .trickle)) (endpointAt (c .endpoint) s)) s
+abbrev pub countEqual : Context → State → State
+countEqual c s = withEndpoint (c .endpoint) (withTrickle (hear (endpointAt (c .endpoint) s .trickle)) (endpointAt (c .endpoint) s)) s
 
 unfoldable pub onEqual : Context → Work → Work
-onEqual c w = let v : Work = touch c w in cond (c .unicast) v (withState (heard c (v .state)) v)
+onEqual c w = let v : Work = touch c w in cond (c .unicast) v (withState (countEqual c (v .state)) v)
 
 -- "if the digest differs and no Node State .. about another box is in this datagram, ask for the network state"
 unfoldable pub onNetwork : Context → List ℕ → Work → Work
@@ -159,7 +159,7 @@ onNetwork c d w = cond (same (digestNow c w) d) (onEqual c w) (cond (c .others) 
 unfoldable pub onOwnState : Context → Received → Work → Work
 onOwnState c r w =
     cond (differs (ownEntry (w .state)) r)
-    (withState (publishAs (c .now) (advance (r .seq) reclaimStep) (ownData (w .state)) (w .state)) w) w
+    (withState (publishAs (c .clock) (advance (r .seq) reclaimStep) (ownData (w .state)) (w .state)) w) w
 
 unfoldable pub carryOut : Context → Decision → Work → Work
 carryOut c Decision.ignored w = w
@@ -170,7 +170,7 @@ carryOut c Decision.dropped w = dropOne w
 
 unfoldable pub onState : Context → Received → Work → Work
 onState c r w =
-    cond (eqb (r .node) (w .state .own)) (onOwnState c r w) (carryOut c (decide (c .now) (w .state .table) r) w)
+    cond (eqb (r .node) (w .state .own)) (onOwnState c r w) (carryOut c (decide (c .clock) (w .state .table) r) w)
 
 -- ---- "The type decides"; "passed over, as are TLVs that are too short"
 

@@ -57,32 +57,32 @@ pub record EndpointFits (last : ℕ) (e : Endpoint) : Type 0 where
 
 -- ---- the parts, at a reading
 
-pub record TableFits (own now : ℕ) (t : List Entry) : Type 0 where
+pub record TableFits (own clock : ℕ) (t : List Entry) : Type 0 where
   pub ascending : Ascending idOf t
   pub held : isSome (look own t) ≡ true
   pub nodes : length t ≤ mostNodes
-  pub entries : All (EntryFits now) t
+  pub entries : All (EntryFits clock) t
 
-pub record PeersFit (own now : ℕ) (ps : List Peer) : Type 0 where
+pub record PeersFit (own clock : ℕ) (ps : List Peer) : Type 0 where
   pub few : length ps ≤ mostPeers
   pub once : Once ps
-  pub all : All (PeerFits own now) ps
+  pub all : All (PeerFits own clock) ps
 
 -- the type 8 TLVs of the data d are exactly the peers' Peer TLVs
 abbrev pub Linked : List ℕ → List Peer → Type 0
 Linked d ps = (t : List ℕ) → (In t (tlvs d) × (typeOf t ≡ 8)) ↔ In t (map peerTlv ps)
 
-pub record EndpointsFit (now : ℕ) (es : List Endpoint) : Type 0 where
+pub record EndpointsFit (clock : ℕ) (es : List Endpoint) : Type 0 where
   pub four : length es ≡ mostEndpoints
-  pub all : All (EndpointFits now) es
+  pub all : All (EndpointFits clock) es
 
 -- what holds of the state within a call at the reading now
-pub record Midway (now : ℕ) (s : State) : Type 0 where
+pub record Midway (clock : ℕ) (s : State) : Type 0 where
   pub own : s .own < circle
-  pub table : TableFits (s .own) now (s .table)
-  pub peers : PeersFit (s .own) now (s .peers)
+  pub table : TableFits (s .own) clock (s .table)
+  pub peers : PeersFit (s .own) clock (s .peers)
   pub links : Linked (ownData s) (s .peers)
-  pub endpoints : EndpointsFit now (s .endpoints)
+  pub endpoints : EndpointsFit clock (s .endpoints)
 
 -- what holds of it between calls: the same at the last reading, and the stored digest is the network digest at that reading
 pub record Valid (s : State) : Type 0 where
@@ -91,6 +91,6 @@ pub record Valid (s : State) : Type 0 where
   pub digest : s .digest ≡ networkDigest (s .own) (s .last) (s .table)
 
 -- what a snapshot that loads holds: our own node in a table that fits
-pub record SnapshotFits (now : ℕ) (b : Snapshot) : Type 0 where
+pub record SnapshotFits (clock : ℕ) (b : Snapshot) : Type 0 where
   pub own : b .own < circle
-  pub table : TableFits (b .own) now (b .entries)
+  pub table : TableFits (b .own) clock (b .entries)

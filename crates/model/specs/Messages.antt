@@ -21,11 +21,11 @@ networkTlv digest = encode 4 digest
 
 -- "box, number, age in ms, H(data)"; "An age over 2^32 - 1 is sent as 2^32 - 1"
 unfoldable pub stateHead : ℕ → Entry → List ℕ
-stateHead now e = big32 (idOf e) ++ (big32 (e .says .seq) ++ (big32 (min (ageAt now e) mostAge) ++ hash16 (e .says .nodeData)))
+stateHead clock e = big32 (idOf e) ++ (big32 (e .says .seq) ++ (big32 (min (ageAt clock e) mostAge) ++ hash16 (e .says .nodeData)))
 
 -- a Node State without data, and with data
 abbrev pub shortState : ℕ → Entry → List ℕ
-shortState now e = encode 5 (stateHead now e)
+shortState clock e = encode 5 (stateHead clock e)
 
 abbrev pub wholeState : ℕ → Entry → List ℕ
-wholeState now e = encode 5 (stateHead now e ++ e .says .nodeData)
+wholeState clock e = encode 5 (stateHead clock e ++ e .says .nodeData)

@@ -11,25 +11,25 @@ use Rattle.model.specs.Begin.{Done}
 
 -- the payment's TLV in its place in our data, published
 unfoldable pub paid : ℕ → Payment → List ℕ → State → State
-paid now p randoms s = settle now randoms (publish now (withTlv (paymentTlv p) (ownData s)) s)
+paid clock p randoms s = settle clock randoms (publish clock (withTlv (paymentTlv p) (ownData s)) s)
 
 abbrev pub refusalPay : ℕ → Payment → ℕ → State → ℕ
-refusalPay now p table s =
-    firstOf (late now ∷ back now s ∷ smallTable table ∷ noHousehold (p .household) ∷ paidAlready p s ∷ full p s ∷ [])
+refusalPay clock p table s =
+    firstOf (late clock ∷ back clock s ∷ smallTable table ∷ noHousehold (p .household) ∷ paidAlready p s ∷ full p s ∷ [])
 
 unfoldable pub pay : ℕ → Payment → List ℕ → ℕ → State → Done
-pay now p randoms table s =
-    let n : ℕ = refusalPay now p table s in
-    cond (eqb n 0) (record { number = 0; state = paid now p randoms s }) (record { number = n; state = s })
+pay clock p randoms table s =
+    let n : ℕ = refusalPay clock p table s in
+    cond (eqb n 0) (record { number = 0; state = paid clock p randoms s }) (record { number = n; state = s })
 
 -- "Forgetting .. drops every box not in reach"
 unfoldable pub purged : ℕ → List ℕ → State → State
-purged now randoms s = settle now randoms (withTable (reached (s .own) now (s .table)) s)
+purged clock randoms s = settle clock randoms (withTable (reached (s .own) clock (s .table)) s)
 
 abbrev pub refusalPurge : ℕ → ℕ → State → ℕ
-refusalPurge now table s = firstOf (late now ∷ back now s ∷ smallTable table ∷ [])
+refusalPurge clock table s = firstOf (late clock ∷ back clock s ∷ smallTable table ∷ [])
 
 unfoldable pub purge : ℕ → List ℕ → ℕ → State → Done
-purge now randoms table s =
-    let n : ℕ = refusalPurge now table s in
-    cond (eqb n 0) (record { number = 0; state = purged now randoms s }) (record { number = n; state = s })
+purge clock randoms table s =
+    let n : ℕ = refusalPurge clock table s in
+    cond (eqb n 0) (record { number = 0; state = purged clock randoms s }) (record { number = n; state = s })

@@ -38,7 +38,7 @@ pub record Vertex : Type 0 where
   pub young : Bool
 
 abbrev pub vertices : ℕ → List Entry → List Vertex
-vertices now t = map (λ e. record { says = e .says; young = underAge now e }) t
+vertices clock t = map (λ e. record { says = e .says; young = underAge clock e }) t
 
 -- v is joined to a node of the level that is under age
 unfoldable pub touched : List Vertex → Vertex → Bool
@@ -78,8 +78,8 @@ marked own t n = any (isNode n) (met own t)
 
 -- node n of the table is reachable at a reading
 unfoldable pub inReach : ℕ → ℕ → List Entry → ℕ → Bool
-inReach own now t n = marked own (vertices now t) n
+inReach own clock t n = marked own (vertices clock t) n
 
 -- the reachable entries of the table, ascending
 unfoldable pub reached : ℕ → ℕ → List Entry → List Entry
-reached own now t = keep (λ e. inReach own now t (idOf e)) t
+reached own clock t = keep (λ e. inReach own clock t (idOf e)) t

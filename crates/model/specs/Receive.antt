@@ -15,7 +15,7 @@ use Rattle.model.specs.Refusals.{firstOf, late, back, noSuchEndpoint, sm
 
 -- the reading, the endpoint, whether it came by unicast, the bytes, a random number for each endpoint; the lengths of the lent buffers
 pub record Call : Type 0 where
-  pub now : ℕ
+  pub clock : ℕ
   pub endpoint : ℕ
   pub unicast : Bool
   pub datagram : List ℕ
@@ -37,7 +37,7 @@ aboutOther own t = (eqb (typeOf t) 5 && leb 28 (length (valueOf t))) && not (eqb
 
 abbrev pub contextOf : State → Call → Context
 contextOf s c =
-    record { now = c .now; endpoint = c .endpoint; unicast = c .unicast; others = any (aboutOther (s .own)) (tlvs (c .datagram)) }
+    record { clock = c .clock; endpoint = c .endpoint; unicast = c .unicast; others = any (aboutOther (s .own)) (tlvs (c .datagram)) }
 
 -- before the first TLV: no sender, nothing written
 abbrev pub startOf : State → Work
@@ -49,12 +49,12 @@ handled s c = allTlvs (contextOf s c) (tlvs (c .datagram)) (startOf s)
 abbrev pub refusalReceive : Call → State → ℕ
 refusalReceive c s =
     firstOf
-    (late (c .now) ∷ back (c .now) s ∷ noSuchEndpoint (c .endpoint) ∷ smallRoom (c .table) (c .room) mostBytes ∷ long (c .datagram) ∷ noRow (c .datagram)
+    (late (c .clock) ∷ back (c .clock) s ∷ noSuchEndpoint (c .endpoint) ∷ smallRoom (c .table) (c .room) mostBytes ∷ long (c .datagram) ∷ noRow (c .datagram)
     ∷ [])
 
 abbrev pub answered : Call → Work → Answer
 answered c w =
-    record { number = 0; state = settle (c .now) (c .randoms) (w .state); bytes = w .out; omitted = w .omitted; dropped = w .dropped }
+    record { number = 0; state = settle (c .clock) (c .randoms) (w .state); bytes = w .out; omitted = w .omitted; dropped = w .dropped }
 
 unfoldable pub receive : Call → State → Answer
 receive c s =

@@ -24,11 +24,11 @@ firstOf (r ∷ rs) = cond (r .applies) (r .number) (firstOf rs)
 
 -- 1: "clock above 2^62 - 1"
 abbrev pub late : ℕ → Row
-late now = record { number = 1; applies = ltb lastReading now }
+late clock = record { number = 1; applies = ltb lastReading clock }
 
 -- 2: "clock below the last accepted reading"
 abbrev pub back : ℕ → State → Row
-back now s = record { number = 2; applies = ltb now (s .last) }
+back clock s = record { number = 2; applies = ltb clock (s .last) }
 
 -- 3: "endpoint not 1 to 4"
 abbrev pub noSuchEndpoint : ℕ → Row

@@ -19,13 +19,13 @@ pub record Marks : Type 0 where
   pub digest : List ℕ
 
 abbrev pub refusalMarks : ℕ → ℕ → State → ℕ
-refusalMarks now table s = firstOf (late now ∷ back now s ∷ smallTable table ∷ [])
+refusalMarks clock table s = firstOf (late clock ∷ back clock s ∷ smallTable table ∷ [])
 
 unfoldable pub marks : ℕ → ℕ → State → Marks
-marks now table s =
-    let n : ℕ = refusalMarks now table s in
+marks clock table s =
+    let n : ℕ = refusalMarks clock table s in
     cond (eqb n 0)
-    (record { number = 0; nodes = map idOf (reached (s .own) now (s .table)); digest = networkDigest (s .own) now (s .table) })
+    (record { number = 0; nodes = map idOf (reached (s .own) clock (s .table)); digest = networkDigest (s .own) clock (s .table) })
     (record { number = n; nodes = []; digest = replicate 16 0 })
 
 abbrev pub refusalShow : ℕ → ℕ → State → ℕ

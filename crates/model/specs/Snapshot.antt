@@ -5,11 +5,12 @@ use mathlib.Core.Option.{Option, none, some}
 use Prim.Native.Nat.{ℕ, zero, suc, _+_, min}
 use lib.ListN.{length, take, drop}
 use lib.Dec.{eqb, ltb, leb}
+use Rattle.base.specs.Bytes.{mostU32}
 use Rattle.base.specs.Lists.{keep, joinAll, orElse, isSome}
 use Rattle.wire.specs.Row.{typeOf, tlvs}
 use Rattle.wire.specs.Order.{good}
 use Rattle.wire.specs.Groups.{groups, readGroups}
-use Rattle.model.specs.Figures.{mostNodes, dataLimit, mostAge, snapshotBytes, wide}
+use Rattle.model.specs.Figures.{mostNodes, dataLimit, mostAge, snapshotBytes}
 use Rattle.model.specs.Sequence.{advance}
 use Rattle.model.specs.Table.{Entry, entryOf, idOf, ageAt, look, put}
 use Rattle.model.specs.State.{State, noEntry}
@@ -25,24 +26,24 @@ pub record Snapshot : Type 0 where
 
 -- "per box ascending: identifier, number, age (largest 2^32 - 1), data length, data"
 unfoldable pub saveEntry : ℕ → Entry → List ℕ
-saveEntry now e =
-    groups (idOf e) ++ (groups (e .says .seq) ++ (groups (min (ageAt now e) mostAge) ++ (groups (length (e .says .nodeData)) ++ e .says .nodeData)))
+saveEntry clock e =
+    groups (idOf e) ++ (groups (e .says .seq) ++ (groups (min (ageAt clock e) mostAge) ++ (groups (length (e .says .nodeData)) ++ e .says .nodeData)))
 
 -- "edition 1, own identifier, count, then .."
 unfoldable pub saved : ℕ → ℕ → List Entry → List ℕ
-saved own now t = groups 1 ++ (groups own ++ (groups (length t) ++ joinAll (map (saveEntry now) t)))
+saved own clock t = groups 1 ++ (groups own ++ (groups (length t) ++ joinAll (map (saveEntry clock) t)))
 
 pub record Saved : Type 0 where
   pub number : ℕ
   pub bytes : List ℕ
 
 abbrev pub refusalSave : ℕ → ℕ → ℕ → State → ℕ
-refusalSave now table room s = firstOf (late now ∷ back now s ∷ smallRoom table room snapshotBytes ∷ [])
+refusalSave clock table room s = firstOf (late clock ∷ back clock s ∷ smallRoom table room snapshotBytes ∷ [])
 
 unfoldable pub save : ℕ → ℕ → ℕ → State → Saved
-save now table room s =
-    let n : ℕ = refusalSave now table room s in
-    cond (eqb n 0) (record { number = 0; bytes = saved (s .own) now (s .table) }) (record { number = n; bytes = [] })
+save clock table room s =
+    let n : ℕ = refusalSave clock table room s in
+    cond (eqb n 0) (record { number = 0; bytes = saved (s .own) clock (s .table) }) (record { number = n; bytes = [] })
 
 -- ---- loading: "Anything else is 11"
 
@@ -56,23 +57,23 @@ consTo e (some t) = some (e ∷ t)
 
 -- n entries with identifiers from `low` on, up to the end; ages count from the reading now
 unfoldable pub loadEntries : ℕ → ℕ → ℕ → List ℕ → Option (List Entry)
-loadEntries now zero low [] = some []
-loadEntries now zero low (x ∷ s) = none
-loadEntries now (suc n) low s =
-    reads wide s (λ node a. cond (ltb node low) none
-    (reads wide a (λ seq b. reads mostAge b (λ age c. reads dataLimit c (λ size d.
+loadEntries clock zero low [] = some []
+loadEntries clock zero low (x ∷ s) = none
+loadEntries clock (suc n) low s =
+    reads mostU32 s (λ node a. cond (ltb node low) none
+    (reads mostU32 a (λ seq b. reads mostAge b (λ age c. reads dataLimit c (λ size d.
     cond (leb size (length d) && good dataLimit (take size d))
-    (consTo (entryOf node seq (take size d) age now) (loadEntries now n (node + 1) (drop size d)))
+    (consTo (entryOf node seq (take size d) age clock) (loadEntries clock n (node + 1) (drop size d)))
     none)))))
 
 abbrev pub holdsOwn : ℕ → List Entry → Option Snapshot
 holdsOwn own t = cond (isSome (look own t)) (some (record { own = own; entries = t })) none
 
 unfoldable pub load : ℕ → List ℕ → Option Snapshot
-load now s =
+load clock s =
     reads 1 s (λ edition a. cond (eqb edition 1)
-    (reads wide a (λ own b. reads mostNodes b (λ n c. cond (leb 1 n)
-    (orElse (loadEntries now n 0 c) none (holdsOwn own)) none))) none)
+    (reads mostU32 a (λ own b. reads mostNodes b (λ n c. cond (leb 1 n)
+    (orElse (loadEntries clock n 0 c) none (holdsOwn own)) none))) none)
 
 -- ---- resuming: "drops every type 8 TLV of ours and all peers, has asked nothing yet, and republishes once"
 
@@ -80,21 +81,21 @@ abbrev pub withoutLinks : List ℕ → List ℕ
 withoutLinks d = joinAll (keep (λ t. not (eqb (typeOf t) 8)) (tlvs d))
 
 unfoldable pub republished : ℕ → Snapshot → List Entry
-republished now b =
+republished clock b =
     let e : Entry = orElse (look (b .own) (b .entries)) noEntry (λ f. f) in
-    put (entryOf (b .own) (advance (e .says .seq) 1) (withoutLinks (e .says .nodeData)) 0 now) (b .entries)
+    put (entryOf (b .own) (advance (e .says .seq) 1) (withoutLinks (e .says .nodeData)) 0 clock) (b .entries)
 
 unfoldable pub resumed : ℕ → List ℕ → Snapshot → State
-resumed now randoms b = started (b .own) now randoms (republished now b)
+resumed clock randoms b = started (b .own) clock randoms (republished clock b)
 
 -- 11: "not a saved book"
 abbrev pub noSnapshot : ℕ → List ℕ → Row
-noSnapshot now bytes = record { number = 11; applies = not (isSome (load now bytes)) }
+noSnapshot clock bytes = record { number = 11; applies = not (isSome (load clock bytes)) }
 
 abbrev pub refusalResume : ℕ → List ℕ → ℕ → ℕ
-refusalResume now bytes table = firstOf (late now ∷ smallTable table ∷ noSnapshot now bytes ∷ [])
+refusalResume clock bytes table = firstOf (late clock ∷ smallTable table ∷ noSnapshot clock bytes ∷ [])
 
 unfoldable pub resume : ℕ → List ℕ → List ℕ → ℕ → State → Done
-resume now bytes randoms table s =
-    let n : ℕ = refusalResume now bytes table in
-    cond (eqb n 0) (record { number = 0; state = orElse (load now bytes) s (resumed now randoms) }) (record { number = n; state = s })
+resume clock bytes randoms table s =
+    let n : ℕ = refusalResume clock bytes table in
+    cond (eqb n 0) (record { number = 0; state = orElse (load clock bytes) s (resumed clock randoms) }) (record { number = n; state = s })

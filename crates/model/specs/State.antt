@@ -74,11 +74,11 @@ ownData s = ownEntry s .says .nodeData
 
 -- our node has the sequence number n and the data d: "sets age 0"
 unfoldable pub publishAs : ℕ → ℕ → List ℕ → State → State
-publishAs now n d s = withTable (put (entryOf (s .own) n d 0 now) (s .table)) s
+publishAs clock n d s = withTable (put (entryOf (s .own) n d 0 clock) (s .table)) s
 
 -- "Publishing adds 1 modulo 2^32"
 abbrev pub publish : ℕ → List ℕ → State → State
-publish now d s = publishAs now (advance (ownSeq s) 1) d s
+publish clock d s = publishAs clock (advance (ownSeq s) 1) d s
 
 -- "8 Peer: peer box, peer endpoint, own endpoint"
 unfoldable pub peerTlv : Peer → List ℕ
@@ -93,24 +93,24 @@ abbrev pub isPeer : ℕ → ℕ → ℕ → Peer → Bool
 isPeer n theirs ours p = (eqb (p .node) n && eqb (p .theirs) theirs) && eqb (p .ours) ours
 
 abbrev pub contacted : ℕ → ℕ → ℕ → ℕ → Peer → Peer
-contacted n theirs ours now p =
-    cond (isPeer n theirs ours p) (record { node = p .node; theirs = p .theirs; ours = p .ours; contact = now }) p
+contacted n theirs ours clock p =
+    cond (isPeer n theirs ours p) (record { node = p .node; theirs = p .theirs; ours = p .ours; contact = clock }) p
 
 -- every endpoint reset, each with its random number
 unfoldable pub resetAll : ℕ → List ℕ → List Endpoint → List Endpoint
-resetAll now rs [] = []
-resetAll now [] (e ∷ es) = e ∷ es
-resetAll now (r ∷ rs) (e ∷ es) = withTrickle (reset now r (e .trickle)) e ∷ resetAll now rs es
+resetAll clock rs [] = []
+resetAll clock [] (e ∷ es) = e ∷ es
+resetAll clock (r ∷ rs) (e ∷ es) = withTrickle (reset clock r (e .trickle)) e ∷ resetAll clock rs es
 
 -- "If the digest differs from the one at the end of the last state-changing call": the reading is taken, and Trickle reset
 unfoldable pub settle : ℕ → List ℕ → State → State
-settle now randoms s =
-    let d : List ℕ = networkDigest (s .own) now (s .table) in
+settle clock randoms s =
+    let d : List ℕ = networkDigest (s .own) clock (s .table) in
     record {
       own = s .own;
-      last = now;
+      last = clock;
       table = s .table;
       peers = s .peers;
-      endpoints = cond (same (s .digest) d) (s .endpoints) (resetAll now randoms (s .endpoints));
+      endpoints = cond (same (s .digest) d) (s .endpoints) (resetAll clock randoms (s .endpoints));
       digest = d;
     }

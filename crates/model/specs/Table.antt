@@ -27,11 +27,11 @@ entryOf node seq d age since = record { says = record { node = node; seq = seq; 
 
 -- "the age taken or set plus the milliseconds since"
 abbrev pub ageAt : ℕ → Entry → ℕ
-ageAt now e = e .age + (now - e .since)
+ageAt clock e = e .age + (clock - e .since)
 
 -- "under age when .. below 4,294,934,528"
 abbrev pub underAge : ℕ → Entry → Bool
-underAge now e = ltb (ageAt now e) ageLimit
+underAge clock e = ltb (ageAt clock e) ageLimit
 
 unfoldable pub look : ℕ → List Entry → Option Entry
 look n t = find idOf n t

@@ -48,13 +48,13 @@ pub record MarkedExamples : Type 0 where
 -- our own node, every node on it but the last under the age limit. The reachable entries are those of the table whose nodes are reachable, in the
 -- table's order. After the first level there are at most nodes less one.
 abbrev pub Chained : ℕ → ℕ → List Entry → ℕ → Type 0
-Chained own now t n = (k : ℕ) × (v : Vertex) × Chain own (vertices now t) k v × (v .says .node ≡ n)
+Chained own clock t n = (k : ℕ) × (v : Vertex) × Chain own (vertices clock t) k v × (v .says .node ≡ n)
 
 pub record LevelsAreChains : Type 0 where
-  pub same : (own now : ℕ) (t : List Entry) (n : ℕ) → (inReach own now t n ≡ true) ↔ Chained own now t n
-  pub entries : (own now : ℕ) (t : List Entry) (e : Entry) → In e (reached own now t) ↔ (In e t × (inReach own now t (idOf e) ≡ true))
-  pub sorted : (own now : ℕ) (t : List Entry) → Ascending idOf t → Ascending idOf (reached own now t)
-  pub few : (s : State) (now : ℕ) → Valid s → length (levels (s .own) (vertices now (s .table))) + 1 ≤ length (s .table)
+  pub same : (own clock : ℕ) (t : List Entry) (n : ℕ) → (inReach own clock t n ≡ true) ↔ Chained own clock t n
+  pub entries : (own clock : ℕ) (t : List Entry) (e : Entry) → In e (reached own clock t) ↔ (In e t × (inReach own clock t (idOf e) ≡ true))
+  pub sorted : (own clock : ℕ) (t : List Entry) → Ascending idOf t → Ascending idOf (reached own clock t)
+  pub few : (s : State) (clock : ℕ) → Valid s → length (levels (s .own) (vertices clock (s .table))) + 1 ≤ length (s .table)
 
 -- 3. The order of delivery loses nothing (demand 3): OrderLosesNothing, in Delivery.
 
@@ -62,30 +62,30 @@ pub record LevelsAreChains : Type 0 where
 -- and that an identifier has 32 bits is what the types of the calls' arguments give.
 pub record InvariantKept : Type 0 where
   pub first : Valid blank
-  pub begins : (own now : ℕ) (rs : List ℕ) (table : ℕ) (s : State) → own < circle → length rs ≡ mostEndpoints → Valid s → Valid (begin own now rs table s .state)
-  pub resumes : (now : ℕ) (bytes rs : List ℕ) (table : ℕ) (s : State) → length rs ≡ mostEndpoints → Valid s → Valid (resume now bytes rs table s .state)
+  pub begins : (own clock : ℕ) (rs : List ℕ) (table : ℕ) (s : State) → own < circle → length rs ≡ mostEndpoints → Valid s → Valid (begin own clock rs table s .state)
+  pub resumes : (clock : ℕ) (bytes rs : List ℕ) (table : ℕ) (s : State) → length rs ≡ mostEndpoints → Valid s → Valid (resume clock bytes rs table s .state)
   pub receives : (c : Call) (s : State) → Bytes (c .datagram) → Valid s → Valid (receive c s .state)
-  pub ticks : (now i : ℕ) (rs : List ℕ) (table room : ℕ) (s : State) → Valid s → Valid (tick now i rs table room s .state)
-  pub pays : (now : ℕ) (p : Payment) (rs : List ℕ) (table : ℕ) (s : State) → Valid s → Valid (pay now p rs table s .state)
-  pub purges : (now : ℕ) (rs : List ℕ) (table : ℕ) (s : State) → Valid s → Valid (purge now rs table s .state)
+  pub ticks : (clock i : ℕ) (rs : List ℕ) (table room : ℕ) (s : State) → Valid s → Valid (tick clock i rs table room s .state)
+  pub pays : (clock : ℕ) (p : Payment) (rs : List ℕ) (table : ℕ) (s : State) → Valid s → Valid (pay clock p rs table s .state)
+  pub purges : (clock : ℕ) (rs : List ℕ) (table : ℕ) (s : State) → Valid s → Valid (purge clock rs table s .state)
 
 -- 5. Saving at one reading and loading at another gives back what was saved, ages capped and counted on from the second; a snapshot fits its
 -- room; whatever loads is what saving its content writes, and holds our own node, identifiers strictly ascending and good data.
 abbrev pub capped : ℕ → ℕ → Entry → Entry
-capped now later e = entryOf (idOf e) (e .says .seq) (e .says .nodeData) (min (ageAt now e) mostAge) later
+capped clock later e = entryOf (idOf e) (e .says .seq) (e .says .nodeData) (min (ageAt clock e) mostAge) later
 
 pub record Snapshots : Type 0 where
-  pub back : (s : State) (now later : ℕ) → Valid s
-      → load later (saved (s .own) now (s .table)) ≡ some (record { own = s .own; entries = map (capped now later) (s .table) })
-  pub room : (s : State) (now : ℕ) → Valid s → length (saved (s .own) now (s .table)) ≤ snapshotBytes
-  pub once : (now : ℕ) (bytes : List ℕ) (b : Snapshot) → Bytes bytes → load now bytes ≡ some b → bytes ≡ saved (b .own) now (b .entries)
-  pub fits : (now : ℕ) (bytes : List ℕ) (b : Snapshot) → load now bytes ≡ some b → SnapshotFits now b
+  pub back : (s : State) (clock later : ℕ) → Valid s
+      → load later (saved (s .own) clock (s .table)) ≡ some (record { own = s .own; entries = map (capped clock later) (s .table) })
+  pub room : (s : State) (clock : ℕ) → Valid s → length (saved (s .own) clock (s .table)) ≤ snapshotBytes
+  pub once : (clock : ℕ) (bytes : List ℕ) (b : Snapshot) → Bytes bytes → load clock bytes ≡ some b → bytes ≡ saved (b .own) clock (b .entries)
+  pub fits : (clock : ℕ) (bytes : List ℕ) (b : Snapshot) → load clock bytes ≡ some b → SnapshotFits clock b
 
 -- 6. After two ticks at one reading nothing further is due on that endpoint: a third sends nothing and changes nothing.
 pub record TwoTicks : Type 0 where
-  pub rest : (s : State) (now i : ℕ) (p q r : List ℕ) → Valid s → s .last ≤ now → now ≤ lastReading → 1 ≤ i → i ≤ mostEndpoints →
-      let b : State = ticked now i q (ticked now i p s .state) .state in
-      ticked now i r b ≡ record { number = 0; state = b; bytes = [] }
+  pub rest : (s : State) (clock i : ℕ) (p q r : List ℕ) → Valid s → s .last ≤ clock → clock ≤ lastReading → 1 ≤ i → i ≤ mostEndpoints →
+      let b : State = ticked clock i q (ticked clock i p s .state) .state in
+      ticked clock i r b ≡ record { number = 0; state = b; bytes = [] }
 
 -- 7. An accepted call answers with the total, or the sum, and the count of the reachable nodes. A total is the sum over all their TLVs of what each
 -- has for the household: the amount of a readable payment, else nothing. The count is of the unreadable payments among these TLVs. The sum over all
@@ -106,20 +106,20 @@ sumℕ [] = 0
 sumℕ (n ∷ ns) = n + sumℕ ns
 
 pub record TotalsAddUp : Type 0 where
-  pub totals : (now h table : ℕ) (s : State) → refusalTotal now h table s ≡ 0
-      → total now h table s ≡ record { number = 0; value = totalOf h (reachable now s); unread = unreadable (paymentsIn (reachable now s)) }
-  pub sums : (now table : ℕ) (s : State) → refusalSum now table s ≡ 0
-      → sum now table s ≡ record { number = 0; value = sumOf (reachable now s); unread = unreadable (paymentsIn (reachable now s)) }
+  pub totals : (clock h table : ℕ) (s : State) → refusalTotal clock h table s ≡ 0
+      → total clock h table s ≡ record { number = 0; value = totalOf h (reachable clock s); unread = unreadable (paymentsIn (reachable clock s)) }
+  pub sums : (clock table : ℕ) (s : State) → refusalSum clock table s ≡ 0
+      → sum clock table s ≡ record { number = 0; value = sumOf (reachable clock s); unread = unreadable (paymentsIn (reachable clock s)) }
   pub node : (h : ℕ) (s : Statement) → totalOf h (s ∷ []) ≡ sumℤ (map (amountFor h) (tlvs (s .nodeData)))
   pub nodes : (h : ℕ) (s : Statement) (ss : List Statement) → totalOf h (s ∷ ss) ≡ totalOf h (s ∷ []) +ℤ totalOf h ss
   pub all : (ss : List Statement) → sumℤ (map (λ h. totalOf h ss) (upFrom mostHousehold 1)) ≡ sumOf ss
-  pub total : (s : State) (now h : ℕ) → Valid s → mag (totalOf h (reachable now s)) < 2 ^ 63
-  pub sum : (s : State) (now : ℕ) → Valid s → mag (sumOf (reachable now s)) < 2 ^ 63
+  pub total : (s : State) (clock h : ℕ) → Valid s → mag (totalOf h (reachable clock s)) < 2 ^ 63
+  pub sum : (s : State) (clock : ℕ) → Valid s → mag (sumOf (reachable clock s)) < 2 ^ 63
   pub single : (h node seq : ℕ) (p : Payment) → Payable p → totalOf h (record { node = node; seq = seq; nodeData = paymentTlv p } ∷ []) ≡ cond (eqb (p .household) h) (p .amount) (pos 0)
   pub unread : (s : Statement) → unreadable (paymentsIn (s ∷ [])) ≡ sumℕ (map unreadableOne (tlvs (s .nodeData)))
   pub unreads : (s : Statement) (ss : List Statement) → unreadable (paymentsIn (s ∷ ss)) ≡ unreadable (paymentsIn (s ∷ [])) + unreadable (paymentsIn ss)
   pub counted : (ts : List (List ℕ)) → length (readable ts) + unreadable ts ≡ length ts
-  pub count : (s : State) (now : ℕ) → Valid s → unreadable (paymentsIn (reachable now s)) ≤ 8192
+  pub count : (s : State) (clock : ℕ) → Valid s → unreadable (paymentsIn (reachable clock s)) ≤ 8192
 
 -- 8. Everything sent is a row of whole TLVs, within 4,096 bytes, our Node Endpoint TLV first.
 pub record Form (own endpoint : ℕ) (bytes : List ℕ) : Type 0 where
@@ -128,26 +128,26 @@ pub record Form (own endpoint : ℕ) (bytes : List ℕ) : Type 0 where
 
 pub record SentForm : Type 0 where
   pub receives : (c : Call) (s : State) → Form (s .own) (c .endpoint) (receive c s .bytes)
-  pub ticks : (now i : ℕ) (rs : List ℕ) (table room : ℕ) (s : State) → Form (s .own) i (tick now i rs table room s .bytes)
+  pub ticks : (clock i : ℕ) (rs : List ℕ) (table room : ℕ) (s : State) → Form (s .own) i (tick clock i rs table room s .bytes)
 
 -- ---- single rules
 
 -- A refusal changes no state, and its answer has the number alone: all else is 0 or empty.
 pub record RefusalsChangeNothing : Type 0 where
-  pub begins : (own now : ℕ) (rs : List ℕ) (table : ℕ) (s : State) → ¬ (begin own now rs table s .number ≡ 0) → begin own now rs table s .state ≡ s
-  pub resumes : (now : ℕ) (bytes rs : List ℕ) (table : ℕ) (s : State) → ¬ (resume now bytes rs table s .number ≡ 0) → resume now bytes rs table s .state ≡ s
+  pub begins : (own clock : ℕ) (rs : List ℕ) (table : ℕ) (s : State) → ¬ (begin own clock rs table s .number ≡ 0) → begin own clock rs table s .state ≡ s
+  pub resumes : (clock : ℕ) (bytes rs : List ℕ) (table : ℕ) (s : State) → ¬ (resume clock bytes rs table s .number ≡ 0) → resume clock bytes rs table s .state ≡ s
   pub receives : (c : Call) (s : State) → ¬ (receive c s .number ≡ 0)
       → receive c s ≡ record { number = receive c s .number; state = s; bytes = []; omitted = 0; dropped = 0 }
-  pub ticks : (now i : ℕ) (rs : List ℕ) (table room : ℕ) (s : State) → ¬ (tick now i rs table room s .number ≡ 0)
-      → tick now i rs table room s ≡ record { number = tick now i rs table room s .number; state = s; bytes = [] }
-  pub pays : (now : ℕ) (p : Payment) (rs : List ℕ) (table : ℕ) (s : State) → ¬ (pay now p rs table s .number ≡ 0) → pay now p rs table s .state ≡ s
-  pub purges : (now : ℕ) (rs : List ℕ) (table : ℕ) (s : State) → ¬ (purge now rs table s .number ≡ 0) → purge now rs table s .state ≡ s
-  pub totals : (now h table : ℕ) (s : State) → ¬ (total now h table s .number ≡ 0)
-      → total now h table s ≡ record { number = total now h table s .number; value = pos 0; unread = 0 }
-  pub sums : (now table : ℕ) (s : State) → ¬ (sum now table s .number ≡ 0) → sum now table s ≡ record { number = sum now table s .number; value = pos 0; unread = 0 }
-  pub marking : (now table : ℕ) (s : State) → ¬ (marks now table s .number ≡ 0)
-      → marks now table s ≡ record { number = marks now table s .number; nodes = []; digest = replicate 16 0 }
-  pub saves : (now table room : ℕ) (s : State) → ¬ (save now table room s .number ≡ 0) → save now table room s ≡ record { number = save now table room s .number; bytes = [] }
+  pub ticks : (clock i : ℕ) (rs : List ℕ) (table room : ℕ) (s : State) → ¬ (tick clock i rs table room s .number ≡ 0)
+      → tick clock i rs table room s ≡ record { number = tick clock i rs table room s .number; state = s; bytes = [] }
+  pub pays : (clock : ℕ) (p : Payment) (rs : List ℕ) (table : ℕ) (s : State) → ¬ (pay clock p rs table s .number ≡ 0) → pay clock p rs table s .state ≡ s
+  pub purges : (clock : ℕ) (rs : List ℕ) (table : ℕ) (s : State) → ¬ (purge clock rs table s .number ≡ 0) → purge clock rs table s .state ≡ s
+  pub totals : (clock h table : ℕ) (s : State) → ¬ (total clock h table s .number ≡ 0)
+      → total clock h table s ≡ record { number = total clock h table s .number; value = pos 0; unread = 0 }
+  pub sums : (clock table : ℕ) (s : State) → ¬ (sum clock table s .number ≡ 0) → sum clock table s ≡ record { number = sum clock table s .number; value = pos 0; unread = 0 }
+  pub marking : (clock table : ℕ) (s : State) → ¬ (marks clock table s .number ≡ 0)
+      → marks clock table s ≡ record { number = marks clock table s .number; nodes = []; digest = replicate 16 0 }
+  pub saves : (clock table room : ℕ) (s : State) → ¬ (save clock table room s .number ≡ 0) → save clock table room s ≡ record { number = save clock table room s .number; bytes = [] }
   pub shows : (n table : ℕ) (s : State) → ¬ (refusalShow n table s ≡ 0) → shown n table s ≡ []
 
 -- The refusal table is exact (demand 2): a call answers 0 exactly if no row of its table applies, and a row's number exactly if that row applies and
@@ -159,21 +159,21 @@ pub record Exact (n : ℕ) (rows : List Row) : Type 0 where
       → (n ≡ r .number) ↔ (All (λ q. q .applies ≡ false) earlier × (r .applies ≡ true))
 
 pub record RefusalsExact : Type 0 where
-  pub begins : (own now : ℕ) (rs : List ℕ) (table : ℕ) (s : State) → Exact (begin own now rs table s .number) (late now ∷ smallTable table ∷ [])
-  pub resumes : (now : ℕ) (bytes rs : List ℕ) (table : ℕ) (s : State)
-      → Exact (resume now bytes rs table s .number) (late now ∷ smallTable table ∷ noSnapshot now bytes ∷ [])
+  pub begins : (own clock : ℕ) (rs : List ℕ) (table : ℕ) (s : State) → Exact (begin own clock rs table s .number) (late clock ∷ smallTable table ∷ [])
+  pub resumes : (clock : ℕ) (bytes rs : List ℕ) (table : ℕ) (s : State)
+      → Exact (resume clock bytes rs table s .number) (late clock ∷ smallTable table ∷ noSnapshot clock bytes ∷ [])
   pub receives : (c : Call) (s : State)
       → Exact (receive c s .number)
-      (late (c .now) ∷ back (c .now) s ∷ noSuchEndpoint (c .endpoint) ∷ smallRoom (c .table) (c .room) mostBytes ∷ long (c .datagram) ∷ noRow (c .datagram) ∷ [])
-  pub ticks : (now i : ℕ) (rs : List ℕ) (table room : ℕ) (s : State)
-      → Exact (tick now i rs table room s .number) (late now ∷ back now s ∷ noSuchEndpoint i ∷ smallRoom table room mostBytes ∷ [])
-  pub pays : (now : ℕ) (p : Payment) (rs : List ℕ) (table : ℕ) (s : State)
-      → Exact (pay now p rs table s .number) (late now ∷ back now s ∷ smallTable table ∷ noHousehold (p .household) ∷ paidAlready p s ∷ full p s ∷ [])
-  pub purges : (now : ℕ) (rs : List ℕ) (table : ℕ) (s : State) → Exact (purge now rs table s .number) (late now ∷ back now s ∷ smallTable table ∷ [])
-  pub totals : (now h table : ℕ) (s : State) → Exact (total now h table s .number) (late now ∷ back now s ∷ smallTable table ∷ noHousehold h ∷ [])
-  pub sums : (now table : ℕ) (s : State) → Exact (sum now table s .number) (late now ∷ back now s ∷ smallTable table ∷ [])
-  pub marking : (now table : ℕ) (s : State) → Exact (marks now table s .number) (late now ∷ back now s ∷ smallTable table ∷ [])
-  pub saves : (now table room : ℕ) (s : State) → Exact (save now table room s .number) (late now ∷ back now s ∷ smallRoom table room snapshotBytes ∷ [])
+      (late (c .clock) ∷ back (c .clock) s ∷ noSuchEndpoint (c .endpoint) ∷ smallRoom (c .table) (c .room) mostBytes ∷ long (c .datagram) ∷ noRow (c .datagram) ∷ [])
+  pub ticks : (clock i : ℕ) (rs : List ℕ) (table room : ℕ) (s : State)
+      → Exact (tick clock i rs table room s .number) (late clock ∷ back clock s ∷ noSuchEndpoint i ∷ smallRoom table room mostBytes ∷ [])
+  pub pays : (clock : ℕ) (p : Payment) (rs : List ℕ) (table : ℕ) (s : State)
+      → Exact (pay clock p rs table s .number) (late clock ∷ back clock s ∷ smallTable table ∷ noHousehold (p .household) ∷ paidAlready p s ∷ full p s ∷ [])
+  pub purges : (clock : ℕ) (rs : List ℕ) (table : ℕ) (s : State) → Exact (purge clock rs table s .number) (late clock ∷ back clock s ∷ smallTable table ∷ [])
+  pub totals : (clock h table : ℕ) (s : State) → Exact (total clock h table s .number) (late clock ∷ back clock s ∷ smallTable table ∷ noHousehold h ∷ [])
+  pub sums : (clock table : ℕ) (s : State) → Exact (sum clock table s .number) (late clock ∷ back clock s ∷ smallTable table ∷ [])
+  pub marking : (clock table : ℕ) (s : State) → Exact (marks clock table s .number) (late clock ∷ back clock s ∷ smallTable table ∷ [])
+  pub saves : (clock table room : ℕ) (s : State) → Exact (save clock table room s .number) (late clock ∷ back clock s ∷ smallRoom table room snapshotBytes ∷ [])
   pub shows : (n table : ℕ) (s : State) → Exact (refusalShow n table s) (smallTable table ∷ noSuchNode n s ∷ [])
 
 -- Each TLV at its turn (demand 2): an accepted datagram is handled TLV by TLV, all of its row, each from what the one before left.
@@ -182,7 +182,7 @@ pub record EachAtItsTurn : Type 0 where
   pub both : (c : Context) (ts us : List (List ℕ)) (w : Work) → allTlvs c (ts ++ us) w ≡ allTlvs c us (allTlvs c ts w)
   pub call : (c : Call) (s : State) → receive c s .number ≡ 0 →
       let w : Work = allTlvs (contextOf s c) (tlvs (c .datagram)) (startOf s) in
-      receive c s ≡ record { number = 0; state = settle (c .now) (c .randoms) (w .state); bytes = w .out; omitted = w .omitted; dropped = w .dropped }
+      receive c s ≡ record { number = 0; state = settle (c .clock) (c .randoms) (w .state); bytes = w .out; omitted = w .omitted; dropped = w .dropped }
 
 -- The counts are those of the rules (demand 2): a reply is written, or does not fit and is counted as left out, and a request that is held back is
 -- neither; a new peer without room is counted as dropped, and so is a Node State of a new node where 32 are held, and no other.
@@ -191,12 +191,12 @@ pub record CountsExact : Type 0 where
       → reply c t w ≡ record { state = w .state; sender = w .sender; out = w .out ++ piece c t w; omitted = w .omitted; dropped = w .dropped }
   pub omitted : (c : Context) (t : List ℕ) (w : Work) → mostBytes < length (w .out) + length (piece c t w)
       → reply c t w ≡ record { state = w .state; sender = w .sender; out = w .out; omitted = w .omitted + 1; dropped = w .dropped }
-  pub held : (c : Context) (w : Work) → c .now < endpointAt (c .endpoint) (w .state) .next → askNetwork c w ≡ w
+  pub held : (c : Context) (w : Work) → c .clock < endpointAt (c .endpoint) (w .state) .next → askNetwork c w ≡ w
   pub peers : (c : Context) (f : Sender) (w : Work) → roomForPeer (w .state) ≡ false
       → greet c f w ≡ record { state = w .state; sender = w .sender; out = w .out; omitted = w .omitted; dropped = w .dropped + 1 }
   pub nodes : (c : Context) (w : Work)
       → carryOut c Decision.dropped w ≡ record { state = w .state; sender = w .sender; out = w .out; omitted = w .omitted; dropped = w .dropped + 1 }
-  pub full : (now : ℕ) (t : List Entry) (r : Received) → (decide now t r ≡ Decision.dropped) ↔ ((look (r .node) t ≡ none) × (mostNodes ≤ length t))
+  pub full : (clock : ℕ) (t : List Entry) (r : Received) → (decide clock t r ≡ Decision.dropped) ↔ ((look (r .node) t ≡ none) × (mostNodes ≤ length t))
 
 -- Only reachable nodes are served: what a TLV's handling writes is a row, every Node State of it is about a node reachable at that moment, and every
 -- Network State of it has the network digest at that moment.
@@ -204,35 +204,35 @@ pub record Served : Type 0 where
   pub only : (c : Context) (t : List ℕ) (w : Work)
       → (us : List (List ℕ)) × (oneTlv c t w .out ≡ w .out ++ joinAll us) × (row (joinAll us) ≡ some us)
       × ((u : List ℕ) → In u us → typeOf u ≡ 5
-      → (e : Entry) × In e (reached (w .state .own) (c .now) (w .state .table)) × ((u ≡ shortState (c .now) e) ⊎ (u ≡ wholeState (c .now) e)))
-      × ((u : List ℕ) → In u us → typeOf u ≡ 4 → u ≡ networkTlv (networkDigest (w .state .own) (c .now) (w .state .table)))
+      → (e : Entry) × In e (reached (w .state .own) (c .clock) (w .state .table)) × ((u ≡ shortState (c .clock) e) ⊎ (u ≡ wholeState (c .clock) e)))
+      × ((u : List ℕ) → In u us → typeOf u ≡ 4 → u ≡ networkTlv (networkDigest (w .state .own) (c .clock) (w .state .table)))
 
 -- What we send of a node reads back: its identifier, its sequence number, its age, at most 2^32 - 1, the digest of its data, and the data itself; sent
 -- without data, a node that publishes nothing still says so. The network digest is H over the numbers and digests of the reachable nodes; of our node
 -- alone it is H over its own.
 pub record StatesReadBack : Type 0 where
-  pub whole : (now : ℕ) (e : Entry)
-      → receivedOf (valueOf (wholeState now e))
-      ≡ record { node = idOf e; seq = e .says .seq; age = min (ageAt now e) mostAge; hash = hash16 (e .says .nodeData); carried = some (e .says .nodeData) }
-  pub short : (now : ℕ) (e : Entry)
-      → receivedOf (valueOf (shortState now e))
+  pub whole : (clock : ℕ) (e : Entry)
+      → receivedOf (valueOf (wholeState clock e))
+      ≡ record { node = idOf e; seq = e .says .seq; age = min (ageAt clock e) mostAge; hash = hash16 (e .says .nodeData); carried = some (e .says .nodeData) }
+  pub short : (clock : ℕ) (e : Entry)
+      → receivedOf (valueOf (shortState clock e))
       ≡ record {
         node = idOf e;
         seq = e .says .seq;
-        age = min (ageAt now e) mostAge;
+        age = min (ageAt clock e) mostAge;
         hash = hash16 (e .says .nodeData);
         carried = cond (same (hash16 (e .says .nodeData)) (hash16 [])) (some []) none;
       }
-  pub digest : (own now : ℕ) (t : List Entry)
-      → networkDigest own now t ≡ hash16 (joinAll (map (λ e. big32 (e .says .seq) ++ hash16 (e .says .nodeData)) (reached own now t)))
-  pub alone : (own now : ℕ) (e : Entry) → idOf e ≡ own → networkDigest own now (e ∷ []) ≡ hash16 (big32 (e .says .seq) ++ hash16 (e .says .nodeData))
+  pub digest : (own clock : ℕ) (t : List Entry)
+      → networkDigest own clock t ≡ hash16 (joinAll (map (λ e. big32 (e .says .seq) ++ hash16 (e .says .nodeData)) (reached own clock t)))
+  pub alone : (own clock : ℕ) (e : Entry) → idOf e ≡ own → networkDigest own clock (e ∷ []) ≡ hash16 (big32 (e .says .seq) ++ hash16 (e .says .nodeData))
 
 -- A new node that publishes nothing is taken at once from a Node State of 28 bytes, and not asked for again: once taken, the same Node State is ignored.
 pub record EmptyTaken : Type 0 where
-  pub taken : (now : ℕ) (t : List Entry) (v : List ℕ) → length v ≡ 28 → take 16 (drop 12 v) ≡ hash16 [] → look (u32At v 0) t ≡ none → length t < mostNodes
-      → decide now t (receivedOf v) ≡ Decision.takeAll (entryOf (u32At v 0) (u32At v 4) [] (u32At v 8) now)
-  pub again : (now later : ℕ) (t : List Entry) (v : List ℕ) → length v ≡ 28 → take 16 (drop 12 v) ≡ hash16 []
-      → decide later (put (entryOf (u32At v 0) (u32At v 4) [] (u32At v 8) now) t) (receivedOf v) ≡ Decision.ignored
+  pub taken : (clock : ℕ) (t : List Entry) (v : List ℕ) → length v ≡ 28 → take 16 (drop 12 v) ≡ hash16 [] → look (u32At v 0) t ≡ none → length t < mostNodes
+      → decide clock t (receivedOf v) ≡ Decision.takeAll (entryOf (u32At v 0) (u32At v 4) [] (u32At v 8) clock)
+  pub again : (clock later : ℕ) (t : List Entry) (v : List ℕ) → length v ≡ 28 → take 16 (drop 12 v) ≡ hash16 []
+      → decide later (put (entryOf (u32At v 0) (u32At v 4) [] (u32At v 8) clock) t) (receivedOf v) ≡ Decision.ignored
 
 -- A foreign digest restarts no Trickle interval.
 abbrev pub trickles : State → List Trickle

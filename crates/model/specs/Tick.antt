@@ -31,7 +31,7 @@ abbrev pub silentFor : ℕ → ℕ → Bool
 silentFor interval silence = leb (21 * interval) (10 * silence)
 
 unfoldable pub goes : ℕ → ℕ → List Entry → Peer → Bool
-goes now endpoint t p = eqb (p .ours) endpoint && silentFor (intervalOf t p) (now - p .contact)
+goes clock endpoint t p = eqb (p .ours) endpoint && silentFor (intervalOf t p) (clock - p .contact)
 
 -- node data without the Peer TLVs of these peers
 unfoldable pub withoutPeers : List Peer → List ℕ → List ℕ
@@ -43,10 +43,10 @@ someOf (p ∷ ps) = true
 
 -- "Republish once if any went, or if our age is at least 4,294,901,760"
 unfoldable pub dropSilent : ℕ → ℕ → State → State
-dropSilent now endpoint s =
-    let gone : List Peer = keep (goes now endpoint (s .table)) (s .peers) in
-    cond (someOf gone || leb refreshAge (ageAt now (ownEntry s)))
-    (withPeers (keep (λ p. not (goes now endpoint (s .table) p)) (s .peers)) (publish now (withoutPeers gone (ownData s)) s)) s
+dropSilent clock endpoint s =
+    let gone : List Peer = keep (goes clock endpoint (s .table)) (s .peers) in
+    cond (someOf gone || leb refreshAge (ageAt clock (ownEntry s)))
+    (withPeers (keep (λ p. not (goes clock endpoint (s .table) p)) (s .peers)) (publish clock (withoutPeers gone (ownData s)) s)) s
 
 -- ---- "Then at most one event"
 
@@ -64,15 +64,15 @@ withEvent i s e =
     record { number = 0; state = withEndpoint i (withTrickle (e .next) (endpointAt i s)) s; bytes = cond (e .sends) (announcement i s) [] }
 
 unfoldable pub ticked : ℕ → ℕ → List ℕ → State → Sent
-ticked now i randoms s =
-    let r : State = settle now randoms (dropSilent now i s) in
-    withEvent i r (event now (getD randoms (pred i) 0) (endpointAt i r .trickle))
+ticked clock i randoms s =
+    let r : State = settle clock randoms (dropSilent clock i s) in
+    withEvent i r (event clock (getD randoms (pred i) 0) (endpointAt i r .trickle))
 
 -- `table` and `room` are the lengths of the lent table memory and of the room for what is sent
 abbrev pub refusalTick : ℕ → ℕ → ℕ → ℕ → State → ℕ
-refusalTick now i table room s = firstOf (late now ∷ back now s ∷ noSuchEndpoint i ∷ smallRoom table room mostBytes ∷ [])
+refusalTick clock i table room s = firstOf (late clock ∷ back clock s ∷ noSuchEndpoint i ∷ smallRoom table room mostBytes ∷ [])
 
 unfoldable pub tick : ℕ → ℕ → List ℕ → ℕ → ℕ → State → Sent
-tick now i randoms table room s =
-    let n : ℕ = refusalTick now i table room s in
-    cond (eqb n 0) (ticked now i randoms s) (record { number = n; state = s; bytes = [] })
+tick clock i randoms table room s =
+    let n : ℕ = refusalTick clock i table room s in
+    cond (eqb n 0) (ticked clock i randoms s) (record { number = n; state = s; bytes = [] })

@@ -40,7 +40,7 @@ unfoldable pub sumOf : List Statement → ℤ
 sumOf ss = sumℤ (amounts (readable (paymentsIn ss)))
 
 abbrev pub reachable : ℕ → State → List Statement
-reachable now s = statements (reached (s .own) now (s .table))
+reachable clock s = statements (reached (s .own) clock (s .table))
 
 -- "the count comes with every total and sum"
 pub record Summed : Type 0 where
@@ -52,17 +52,17 @@ abbrev pub notSummed : ℕ → Summed
 notSummed n = record { number = n; value = pos 0; unread = 0 }
 
 abbrev pub refusalTotal : ℕ → ℕ → ℕ → State → ℕ
-refusalTotal now h table s = firstOf (late now ∷ back now s ∷ smallTable table ∷ noHousehold h ∷ [])
+refusalTotal clock h table s = firstOf (late clock ∷ back clock s ∷ smallTable table ∷ noHousehold h ∷ [])
 
 unfoldable pub total : ℕ → ℕ → ℕ → State → Summed
-total now h table s =
-    let n : ℕ = refusalTotal now h table s in
-    cond (eqb n 0) (record { number = 0; value = totalOf h (reachable now s); unread = unreadable (paymentsIn (reachable now s)) }) (notSummed n)
+total clock h table s =
+    let n : ℕ = refusalTotal clock h table s in
+    cond (eqb n 0) (record { number = 0; value = totalOf h (reachable clock s); unread = unreadable (paymentsIn (reachable clock s)) }) (notSummed n)
 
 abbrev pub refusalSum : ℕ → ℕ → State → ℕ
-refusalSum now table s = firstOf (late now ∷ back now s ∷ smallTable table ∷ [])
+refusalSum clock table s = firstOf (late clock ∷ back clock s ∷ smallTable table ∷ [])
 
 unfoldable pub sum : ℕ → ℕ → State → Summed
-sum now table s =
-    let n : ℕ = refusalSum now table s in
-    cond (eqb n 0) (record { number = 0; value = sumOf (reachable now s); unread = unreadable (paymentsIn (reachable now s)) }) (notSummed n)
+sum clock table s =
+    let n : ℕ = refusalSum clock table s in
+    cond (eqb n 0) (record { number = 0; value = sumOf (reachable clock s); unread = unreadable (paymentsIn (reachable clock s)) }) (notSummed n)

@@ -53,18 +53,18 @@ heardAll c (t ∷ ts) w = heardIn (w .state) t ++ heardAll c ts (oneTlv c t w)
 
 pub data Turn : Type 0 where
   receives : Call → Turn
-  ticks : (now endpoint : ℕ) → List ℕ → (table room : ℕ) → Turn
+  ticks : (clock endpoint : ℕ) → List ℕ → (table room : ℕ) → Turn
   pays : ℕ → Payment → List ℕ → ℕ → Turn
 
 abbrev pub turned : State → Turn → State
 turned s (Turn.receives c) = receive c s .state
-turned s (Turn.ticks now i rs table room) = tick now i rs table room s .state
-turned s (Turn.pays now p rs table) = pay now p rs table s .state
+turned s (Turn.ticks clock i rs table room) = tick clock i rs table room s .state
+turned s (Turn.pays clock p rs table) = pay clock p rs table s .state
 
 unfoldable pub heardBy : State → Turn → List Statement
 heardBy s (Turn.receives c) = cond (accepted s c) (heardAll (contextOf s c) (tlvs (c .datagram)) (startOf s)) []
-heardBy s (Turn.ticks now i rs table room) = []
-heardBy s (Turn.pays now p rs table) = []
+heardBy s (Turn.ticks clock i rs table room) = []
+heardBy s (Turn.pays clock p rs table) = []
 
 -- "Each call gets what the last one left"
 unfoldable pub turns : State → List Turn → State

@@ -14,8 +14,8 @@ pub record Trickle : Type 0 where
 
 -- "Afresh: c = 0, send point unspent, t = I/2 + (random mod I/2)"
 unfoldable pub fresh : ℕ → ℕ → ℕ → Trickle
-fresh now interval random =
-    record { start = now; point = interval / 2 + random % (interval / 2); interval = interval; count = 0; spent = false }
+fresh clock interval random =
+    record { start = clock; point = interval / 2 + random % (interval / 2); interval = interval; count = 0; spent = false }
 
 -- "c goes up by one (it stays at 255)"
 unfoldable pub hear : Trickle → Trickle
@@ -26,7 +26,7 @@ spend t = record { start = t .start; point = t .point; interval = t .interval; c
 
 -- the digest has changed: "each endpoint with I above 200 gets I = 200 and starts afresh; one at 200 goes on"
 unfoldable pub reset : ℕ → ℕ → Trickle → Trickle
-reset now random t = cond (ltb leastInterval (t .interval)) (fresh now leastInterval random) t
+reset clock random t = cond (ltb leastInterval (t .interval)) (fresh clock leastInterval random) t
 
 -- at most one event: whether to send, and the state after it
 pub record Event : Type 0 where
@@ -35,15 +35,15 @@ pub record Event : Type 0 where
 
 -- "the send point is unspent and now is at or past start + t"
 abbrev pub pointDue : ℕ → Trickle → Bool
-pointDue now t = not (t .spent) && leb (t .start + t .point) now
+pointDue clock t = not (t .spent) && leb (t .start + t .point) clock
 
 abbrev pub intervalOver : ℕ → Trickle → Bool
-intervalOver now t = leb (t .start + t .interval) now
+intervalOver clock t = leb (t .start + t .interval) clock
 
 unfoldable pub event : ℕ → ℕ → Trickle → Event
-event now random t =
-    cond (pointDue now t)
+event clock random t =
+    cond (pointDue clock t)
     (record { sends = ltb (t .count) redundancy; next = spend t })
-    (cond (intervalOver now t)
-    (record { sends = false; next = fresh now (min (t .interval * 2) greatestInterval) random })
+    (cond (intervalOver clock t)
+    (record { sends = false; next = fresh clock (min (t .interval * 2) greatestInterval) random })
     (record { sends = false; next = t }))

@@ -37,12 +37,12 @@ module _ (p : ModelPeer) (n theirs ours : ℕ) where
   pub same-both : p .node ≡ n → p .theirs ≡ theirs → isPeer n theirs ours p ≡ eqb (p .ours) ours
   same-both e f = rw (eq-eqb (p .node) n e, eq-eqb (p .theirs) theirs f)
 
-  pub contacted-now : (now : ℕ) → isPeer n theirs ours p ≡ true
-      → contacted n theirs ours now p ≡ record { node = p .node; theirs = p .theirs; ours = p .ours; contact = now }
-  contacted-now now h = rw h
+  pub contacted-now : (clock : ℕ) → isPeer n theirs ours p ≡ true
+      → contacted n theirs ours clock p ≡ record { node = p .node; theirs = p .theirs; ours = p .ours; contact = clock }
+  contacted-now clock h = rw h
 
-  pub contacted-not : (now : ℕ) → isPeer n theirs ours p ≡ false → contacted n theirs ours now p ≡ p
-  contacted-not now h = rw h
+  pub contacted-not : (clock : ℕ) → isPeer n theirs ours p ≡ false → contacted n theirs ours clock p ≡ p
+  contacted-not clock h = rw h
 
 -- ---- known: the search over the places from i on
 

@@ -12,7 +12,7 @@ use Rattle.wire.specs.Order.{place}
 use Rattle.model.specs.Figures.{tableBytes}
 use Rattle.model.specs.Table.{Entry, entryOf, look, put}
 use Rattle.model.specs.State.{State as ModelState, Peer as ModelPeer, Endpoint as ModelEndpoint, withTable, withPeers, withEndpoints, withEndpoint, ownData, publishAs, withTlv}
-use Rattle.table.specs.View.{view, dataOf, rowAt, Kept, Stands, Stored, Renumbered, Purged}
+use Rattle.table.specs.View.{view, dataOf, metaAt, Kept, Stands, Stored, Renumbered, Purged}
 use Rattle.table.specs.declared.Table.{Table}
 use Rattle.node.specs.View.{endpointOf, endpointsOf, peersOf, stateOf, PeersRep, Rep, Held, Moved}
 use Rattle.node.specs.declared.State.{State}
@@ -84,10 +84,10 @@ module _ (s : State) (m : List ℕ) (k : Rep s m) where
         rw (state-table s m) (table-moved t m′ (put e (view (s .table) m)) (o .kept) (o .viewed) (o .beyond))
 
     pub renumbered-moved : (id seq age since i : ℕ) → Renumbered id seq age since (s .table) i t
-        → Moved (withTable (put (entryOf id seq (dataOf m (rowAt (s .table) i)) age since) (stateOf s m .table)) (stateOf s m)) m (putTable t s) m
+        → Moved (withTable (put (entryOf id seq (dataOf m (metaAt (s .table) i)) age since) (stateOf s m .table)) (stateOf s m)) m (putTable t s) m
     renumbered-moved id seq age since i o =
         rw (state-table s m)
-        (table-moved t m (put (entryOf id seq (dataOf m (rowAt (s .table) i)) age since) (view (s .table) m)) (o .kept m (k .table)) (o .viewed m) refl)
+        (table-moved t m (put (entryOf id seq (dataOf m (metaAt (s .table) i)) age since) (view (s .table) m)) (o .kept m (k .table)) (o .viewed m) refl)
 
     pub purged-moved : (marks : List Bool) → Purged marks (s .table) t → Moved (withTable (keepBy marks (stateOf s m .table)) (stateOf s m)) m (putTable t s) m
     purged-moved marks o = rw (state-table s m) (table-moved t m (keepBy marks (view (s .table) m)) (o .kept m (k .table)) (o .viewed m) refl)
@@ -105,19 +105,19 @@ module _ (s : State) (m : List ℕ) (i : ℕ) (k : Rep s m) (h : Stands (s .tabl
       ∙ ap (λ (z : List ℕ). publishAs clock seq z (stateOf s m)) e)
 
   pub renumber-moved : Renumbered (s .own) seq 0 clock (s .table) i t → Moved (publishAs clock seq (ownData (stateOf s m)) (stateOf s m)) m (putTable t s) m
-  renumber-moved o = published (dataOf m (rowAt (s .table) i)) (ownData (stateOf s m)) m (sym (own-data s m i k h)) (renumbered-moved s m k t (s .own) seq 0 clock i o)
+  renumber-moved o = published (dataOf m (metaAt (s .table) i)) (ownData (stateOf s m)) m (sym (own-data s m i k h)) (renumbered-moved s m k t (s .own) seq 0 clock i o)
 
-  pub insert-moved : (m′ : List ℕ) (p : ℕ) (tlv d : List ℕ) → d ≡ dataOf m (rowAt (s .table) i) → spliced d p tlv ≡ joinAll (place tlv (tlvs d))
-      → Stored (entryOf (s .own) seq (spliced (dataOf m (rowAt (s .table) i)) p tlv) 0 clock) (s .table) m i t m′
+  pub insert-moved : (m′ : List ℕ) (p : ℕ) (tlv d : List ℕ) → d ≡ dataOf m (metaAt (s .table) i) → spliced d p tlv ≡ joinAll (place tlv (tlvs d))
+      → Stored (entryOf (s .own) seq (spliced (dataOf m (metaAt (s .table) i)) p tlv) 0 clock) (s .table) m i t m′
       → Moved (publishAs clock seq (withTlv tlv (ownData (stateOf s m))) (stateOf s m)) m (putTable t s) m′
   unfolding withTlv
   insert-moved m′ p tlv d q w o =
-      published (spliced (dataOf m (rowAt (s .table) i)) p tlv) (withTlv tlv (ownData (stateOf s m))) m′
+      published (spliced (dataOf m (metaAt (s .table) i)) p tlv) (withTlv tlv (ownData (stateOf s m))) m′
       (ap (λ (z : List ℕ). spliced z p tlv) (sym q) ∙ w ∙ ap (withTlv tlv) (q ∙ sym (own-data s m i k h)))
-      (stored-moved s m k t (entryOf (s .own) seq (spliced (dataOf m (rowAt (s .table) i)) p tlv) 0 clock) m′ i o)
+      (stored-moved s m k t (entryOf (s .own) seq (spliced (dataOf m (metaAt (s .table) i)) p tlv) 0 clock) m′ i o)
 
-  pub remove-moved : (m′ : List ℕ) (p n : ℕ) → Stored (entryOf (s .own) seq (cut (dataOf m (rowAt (s .table) i)) p n) 0 clock) (s .table) m i t m′
+  pub remove-moved : (m′ : List ℕ) (p n : ℕ) → Stored (entryOf (s .own) seq (cut (dataOf m (metaAt (s .table) i)) p n) 0 clock) (s .table) m i t m′
       → Moved (publishAs clock seq (cut (ownData (stateOf s m)) p n) (stateOf s m)) m (putTable t s) m′
   remove-moved m′ p n o =
-      published (cut (dataOf m (rowAt (s .table) i)) p n) (cut (ownData (stateOf s m)) p n) m′ (ap (λ (z : List ℕ). cut z p n) (sym (own-data s m i k h)))
-      (stored-moved s m k t (entryOf (s .own) seq (cut (dataOf m (rowAt (s .table) i)) p n) 0 clock) m′ i o)
+      published (cut (dataOf m (metaAt (s .table) i)) p n) (cut (ownData (stateOf s m)) p n) m′ (ap (λ (z : List ℕ). cut z p n) (sym (own-data s m i k h)))
+      (stored-moved s m k t (entryOf (s .own) seq (cut (dataOf m (metaAt (s .table) i)) p n) 0 clock) m′ i o)

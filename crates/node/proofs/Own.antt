@@ -5,8 +5,8 @@ use Prim.Native.Nat.{ℕ}
 use lib.ListN.{length}
 use Rattle.base.specs.Lists.{isSome}
 use Rattle.base.proofs.Tests.{no-way}
-use Rattle.table.specs.View.{view, dataOf, seen, rowAt, Stands, Gap}
-use Rattle.table.proofs.Rows.{look-stands, look-gap, data-length}
+use Rattle.table.specs.View.{view, dataOf, seen, metaAt, Stands, Gap}
+use Rattle.table.proofs.Tables.{look-stands, look-gap, data-length}
 use Rattle.model.specs.Table.{Entry, look}
 use Rattle.model.specs.State.{ownEntry, ownSeq, ownData}
 use Rattle.node.specs.View.{stateOf, Rep, Held}
@@ -15,21 +15,21 @@ use Rattle.node.specs.declared.State.{State}
 -- a node that is held is not missing
 pub held-found : (s : State) (m : List ℕ) (i : ℕ) → Rep s m → Held s m → ¬ Gap (s .table) (s .own) i
 held-found s m i k h g =
-    no-way (isSome (look (s .own) (view (s .table) m))) h (ap isSome (look-gap (s .table) (k .table .rows) (s .own) i m g))
+    no-way (isSome (look (s .own) (view (s .table) m))) h (ap isSome (look-gap (s .table) (k .table .arranged) (s .own) i m g))
 
 module _ (s : State) (m : List ℕ) (i : ℕ) (k : Rep s m) (h : Stands (s .table) (s .own) i) where
   pub own-held : Held s m
-  own-held = ap isSome (look-stands (s .table) (k .table .rows) (s .own) i m h)
+  own-held = ap isSome (look-stands (s .table) (k .table .arranged) (s .own) i m h)
 
-  pub own-entry : ownEntry (stateOf s m) ≡ seen m (rowAt (s .table) i)
+  pub own-entry : ownEntry (stateOf s m) ≡ seen m (metaAt (s .table) i)
   unfolding ownEntry stateOf
-  own-entry = rw (look-stands (s .table) (k .table .rows) (s .own) i m h)
+  own-entry = rw (look-stands (s .table) (k .table .arranged) (s .own) i m h)
 
-  pub own-seq : ownSeq (stateOf s m) ≡ rowAt (s .table) i .seq
+  pub own-seq : ownSeq (stateOf s m) ≡ metaAt (s .table) i .seq
   own-seq = ap (λ (e : Entry). e .says .seq) own-entry
 
-  pub own-data : ownData (stateOf s m) ≡ dataOf m (rowAt (s .table) i)
+  pub own-data : ownData (stateOf s m) ≡ dataOf m (metaAt (s .table) i)
   own-data = ap (λ (e : Entry). e .says .nodeData) own-entry
 
-  pub own-length : length (ownData (stateOf s m)) ≡ rowAt (s .table) i .len
+  pub own-length : length (ownData (stateOf s m)) ≡ metaAt (s .table) i .len
   own-length = ap length own-data ∙ data-length (s .table) m i (k .table) (h .at) .0

@@ -27,8 +27,8 @@ module _ {clock : ℕ} (s : State) (m : List ℕ) (k : Midway clock (stateOf s m
   pub midway-holds : Held s m
   midway-holds = state-held s m (k .table .held)
 
-  pub midway-row : isRow (ownData (stateOf s m)) ≡ true
-  midway-row = good-row dataLimit (ownData (stateOf s m)) (midway-own (stateOf s m) k .fine)
+  pub midway-meta : isRow (ownData (stateOf s m)) ≡ true
+  midway-meta = good-row dataLimit (ownData (stateOf s m)) (midway-own (stateOf s m) k .fine)
 
 -- ---- a peer more
 

@@ -18,29 +18,29 @@ use Rattle.node.proofs.Parts.{putEndpoints}
 -- ---- reset
 
 abbrev resetOne : ℕ → ℕ → Endpoint → ModelEndpoint
-resetOne now r e = withTrickle (reset now r (endpointOf e .trickle)) (endpointOf e)
+resetOne clock r e = withTrickle (reset clock r (endpointOf e .trickle)) (endpointOf e)
 
-pub reset-four : (now : ℕ) (rs : List ℕ) (es : List Endpoint) (d0 d1 d2 d3 : Endpoint) (a b c d : ModelEndpoint) → length rs ≡ 4 → length es ≡ 4
-    → a ≡ resetOne now (getD rs 0 0) (getD es 0 d0) → b ≡ resetOne now (getD rs 1 0) (getD es 1 d1)
-    → c ≡ resetOne now (getD rs 2 0) (getD es 2 d2) → d ≡ resetOne now (getD rs 3 0) (getD es 3 d3)
-    → a ∷ b ∷ c ∷ d ∷ [] ≡ resetAll now rs (endpointsOf es)
+pub reset-four : (clock : ℕ) (rs : List ℕ) (es : List Endpoint) (d0 d1 d2 d3 : Endpoint) (a b c d : ModelEndpoint) → length rs ≡ 4 → length es ≡ 4
+    → a ≡ resetOne clock (getD rs 0 0) (getD es 0 d0) → b ≡ resetOne clock (getD rs 1 0) (getD es 1 d1)
+    → c ≡ resetOne clock (getD rs 2 0) (getD es 2 d2) → d ≡ resetOne clock (getD rs 3 0) (getD es 3 d3)
+    → a ∷ b ∷ c ∷ d ∷ [] ≡ resetAll clock rs (endpointsOf es)
 unfolding resetAll
-reset-four now rs es d0 d1 d2 d3 a b c d hr he p q r s =
+reset-four clock rs es d0 d1 d2 d3 a b c d hr he p q r s =
     let fours : List Endpoint = getD es 0 d0 ∷ getD es 1 d1 ∷ getD es 2 d2 ∷ getD es 3 d3 ∷ [] in
-    let k : a ∷ b ∷ c ∷ d ∷ [] ≡ resetAll now (getD rs 0 0 ∷ getD rs 1 0 ∷ getD rs 2 0 ∷ getD rs 3 0 ∷ []) (endpointsOf fours) = rw (p, q, r, s) in
-    k ∙ ap (λ (z : List ℕ). resetAll now z (endpointsOf fours)) (sym (four-of rs 0 0 0 0 hr))
-    ∙ ap (λ (z : List Endpoint). resetAll now rs (endpointsOf z)) (sym (four-of es d0 d1 d2 d3 he))
+    let k : a ∷ b ∷ c ∷ d ∷ [] ≡ resetAll clock (getD rs 0 0 ∷ getD rs 1 0 ∷ getD rs 2 0 ∷ getD rs 3 0 ∷ []) (endpointsOf fours) = rw (p, q, r, s) in
+    k ∙ ap (λ (z : List ℕ). resetAll clock z (endpointsOf fours)) (sym (four-of rs 0 0 0 0 hr))
+    ∙ ap (λ (z : List Endpoint). resetAll clock rs (endpointsOf z)) (sym (four-of es d0 d1 d2 d3 he))
 
 -- ---- settled
 
 -- the state with the reading and the digest at the end of a call
 abbrev pub closed : ℕ → List ℕ → State → State
-closed now d s = record { own = s .own; last = now; table = s .table; peers = s .peers; endpoints = s .endpoints; digest = d }
+closed clock d s = record { own = s .own; last = clock; table = s .table; peers = s .peers; endpoints = s .endpoints; digest = d }
 
-module _ (now : ℕ) (randoms d : List ℕ) (s r : State) (n : length d ≡ 16) where
+module _ (clock : ℕ) (randoms d : List ℕ) (s r : State) (n : length d ≡ 16) where
   settles : (es : List Endpoint) → r ≡ putEndpoints es s → (length (s .endpoints) ≡ 4 → length es ≡ 4)
-      → endpointsOf es ≡ cond (same (s .digest) d) (endpointsOf (s .endpoints)) (resetAll now randoms (endpointsOf (s .endpoints)))
-      → Settled now randoms d s (closed now d r)
+      → endpointsOf es ≡ cond (same (s .digest) d) (endpointsOf (s .endpoints)) (resetAll clock randoms (endpointsOf (s .endpoints)))
+      → Settled clock randoms d s (closed clock d r)
   unfolding stateOf settle
   settles es q f e =
       rw q
@@ -50,16 +50,16 @@ module _ (now : ℕ) (randoms d : List ℕ) (s r : State) (n : length d ≡ 16) 
       })
 
   -- the digest is as it was
-  pub settles-same : same (s .digest) d ≡ true → r ≡ s → Settled now randoms d s (closed now d r)
+  pub settles-same : same (s .digest) d ≡ true → r ≡ s → Settled clock randoms d s (closed clock d r)
   settles-same h q = settles (s .endpoints) q (λ k. k) (rw h)
 
   -- it is another
   pub settles-new : (es : List Endpoint) → same (s .digest) d ≡ false → length es ≡ 4
-      → endpointsOf es ≡ resetAll now randoms (endpointsOf (s .endpoints)) → r ≡ putEndpoints es s → Settled now randoms d s (closed now d r)
+      → endpointsOf es ≡ resetAll clock randoms (endpointsOf (s .endpoints)) → r ≡ putEndpoints es s → Settled clock randoms d s (closed clock d r)
   settles-new es h l e q = settles es q (λ k. l) (rw h e)
 
 -- a settled state as a step
-pub settled-moved : (now : ℕ) (randoms d : List ℕ) (s r : State) (m : List ℕ) → Settled now randoms d s r → Rep s m
-    → d ≡ networkDigest (s .own) now (view (s .table) m)
-    → Moved (settle now randoms (stateOf s m)) m r m
-settled-moved now randoms d s r m h k e = record { rep = h .rep m k; is = h .is m e; size = refl; beyond = refl }
+pub settled-moved : (clock : ℕ) (randoms d : List ℕ) (s r : State) (m : List ℕ) → Settled clock randoms d s r → Rep s m
+    → d ≡ networkDigest (s .own) clock (view (s .table) m)
+    → Moved (settle clock randoms (stateOf s m)) m r m
+settled-moved clock randoms d s r m h k e = record { rep = h .rep m k; is = h .is m e; size = refl; beyond = refl }

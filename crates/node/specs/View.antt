@@ -64,6 +64,6 @@ pub record Moved (after : ModelState) (m : List ℕ) (r : State) (m′ : List �
   pub beyond : drop tableBytes m′ ≡ drop tableBytes m
 
 -- the end of a call at the reading `now`, where d is the network digest then
-pub record Settled (now : ℕ) (randoms d : List ℕ) (s r : State) : Type 0 where
+pub record Settled (clock : ℕ) (randoms d : List ℕ) (s r : State) : Type 0 where
   pub rep : (m : List ℕ) → Rep s m → Rep r m
-  pub is : (m : List ℕ) → d ≡ networkDigest (s .own) now (view (s .table) m) → stateOf r m ≡ settle now randoms (stateOf s m)
+  pub is : (m : List ℕ) → d ≡ networkDigest (s .own) clock (view (s .table) m) → stateOf r m ≡ settle clock randoms (stateOf s m)

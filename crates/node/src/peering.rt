@@ -32,12 +32,12 @@ pub fn add_peer(s: State, mem: &mut [u8], clock: u64, p: Peer) -> State
 }
 
 // The last contact of this peer, if it is one, is now.
-pub fn touch(s: State, node: u32, theirs: u32, ours: u32, clock: u64) -> State
+pub fn note_contact(s: State, node: u32, theirs: u32, ours: u32, clock: u64) -> State
     requires { ⌜ PeersRep (s .peers) ⌝ }
     ensures { λ r. ⌜ ((m : List ℕ) → Rep s m → Moved (withPeers (map (contacted node theirs ours clock) (stateOf s m .peers)) (stateOf s m)) m r m) × ((r .table ≡ s .table) × (r .own ≡ s .own)) ⌝ }
 {
     let mut r = s;
-    r.peers = crate::peers::touch(s.peers, node, theirs, ours, clock);
+    r.peers = crate::peers::with_contact(s.peers, node, theirs, ours, clock);
     r
 }
 

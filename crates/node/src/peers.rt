@@ -64,7 +64,7 @@ fn contacted(p: Peer, node: u32, theirs: u32, ours: u32, clock: u64) -> Peer
 }
 
 // The peers, the one that has them heard now.
-pub fn touch(p: Peers, node: u32, theirs: u32, ours: u32, clock: u64) -> Peers
+pub fn with_contact(p: Peers, node: u32, theirs: u32, ours: u32, clock: u64) -> Peers
     requires { ⌜ PeersRep p ⌝ }
     ensures { λ r. ⌜ PeersRep r × (peersOf r ≡ map (contacted node theirs ours clock) (peersOf p)) ⌝ }
 {

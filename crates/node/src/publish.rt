@@ -44,7 +44,7 @@ pub fn own_seq(s: State, mem: &[u8]) -> u32
     ensures { λ r. ⌜ r ≡ ownSeq (stateOf s (now (mem .entry))) ⌝ }
 {
     let i = own_place(s, mem);
-    let e = table::row_at(s.table, i);
+    let e = table::meta_at(s.table, i);
     e.seq
 }
 

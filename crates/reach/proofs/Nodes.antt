@@ -15,52 +15,52 @@ use Rattle.model.specs.Table.{Entry, Statement, underAge}
 use Rattle.model.specs.Reach.{Vertex, vertices, joined}
 use Rattle.model.specs.Invariant.{EntryFits, TableFits}
 use Rattle.table.specs.declared.Table.{Table}
-use Rattle.table.specs.declared.Entry.{Entry as Row}
-use Rattle.table.specs.View.{blank, rowAt, dataOf, seen, view, FitRow, Rows, Kept, Read}
-use Rattle.table.proofs.Rows.{row-read, view-length, view-at, view-each}
+use Rattle.table.specs.declared.Entry.{Entry as Meta}
+use Rattle.table.specs.View.{blank, metaAt, dataOf, seen, view, FitMeta, Arranged, Kept, Read}
+use Rattle.table.proofs.Tables.{meta-read, view-length, view-at, view-each}
 use Rattle.reach.specs.Marks.{joins, Readable, Legible, noVertex, leads}
 use Rattle.reach.specs.Parts.{Front}
 use Rattle.reach.proofs.Fronts.{joins-front}
 
 -- a table that fits may be marked
-pub fits-readable : (own now : ℕ) (t : Table) (m : List ℕ) → Kept t m → TableFits own now (view t m) → now ≤ lastReading → Readable now t m
-fits-readable own now t m k f l = record { kept = k; entries = f .entries; clock = l }
+pub fits-readable : (own clock : ℕ) (t : Table) (m : List ℕ) → Kept t m → TableFits own clock (view t m) → clock ≤ lastReading → Readable clock t m
+fits-readable own clock t m k f l = record { kept = k; entries = f .entries; reading = l }
 
 -- ---- a node
 
 abbrev pub vertexOf : ℕ → Entry → Vertex
-vertexOf now e = record { says = e .says; young = underAge now e }
+vertexOf clock e = record { says = e .says; young = underAge clock e }
 
-pub vertex-at : (now : ℕ) (t : List Entry) (i : ℕ) (d : Entry) → i < length t → getD (vertices now t) i noVertex ≡ vertexOf now (getD t i d)
-vertex-at now [] i d p = absurd (not-suc-le-zero p)
-vertex-at now (e ∷ t) zero d p = refl
-vertex-at now (e ∷ t) (suc i) d p = vertex-at now t i d (le-of-suc-le-suc p)
+pub vertex-at : (clock : ℕ) (t : List Entry) (i : ℕ) (d : Entry) → i < length t → getD (vertices clock t) i noVertex ≡ vertexOf clock (getD t i d)
+vertex-at clock [] i d p = absurd (not-suc-le-zero p)
+vertex-at clock (e ∷ t) zero d p = refl
+vertex-at clock (e ∷ t) (suc i) d p = vertex-at clock t i d (le-of-suc-le-suc p)
 
-pub vertices-length : (now : ℕ) (t : List Entry) → length (vertices now t) ≡ length t
-vertices-length now t = length-map t (vertexOf now)
+pub vertices-length : (clock : ℕ) (t : List Entry) → length (vertices clock t) ≡ length t
+vertices-length clock t = length-map t (vertexOf clock)
 
 -- the node at place r is young, and joined to that at place v
 abbrev pub leadsAt : ℕ → List Entry → ℕ → ℕ → Bool
-leadsAt now t r v =
-    getD (vertices now t) r noVertex .young && joined (getD (vertices now t) r noVertex .says) (getD (vertices now t) v noVertex .says)
+leadsAt clock t r v =
+    getD (vertices clock t) r noVertex .young && joined (getD (vertices clock t) r noVertex .says) (getD (vertices clock t) v noVertex .says)
 
 -- who is joined depends on identifiers and data alone
 joins-says : (r n : Statement) → joins (r .node) (r .nodeData) (n .node) (n .nodeData) ≡ joined r n
 unfolding joined
 joins-says r n = refl
 
--- ---- a row
+-- ---- an entry
 
-module _ (clock : ℕ) (m : List ℕ) (e : Row) (g : Legible clock m e) where
+module _ (clock : ℕ) (m : List ℕ) (e : Meta) (g : Legible clock m e) where
   -- what `age_at` asks of it
-  pub row-age : (e .since ≤ clock) × ((e .age ≤ mostAge) × (clock ≤ lastReading))
-  row-age = (g .entry .since, (g .entry .age, g .clock))
+  pub meta-age : (e .since ≤ clock) × ((e .age ≤ mostAge) × (clock ≤ lastReading))
+  meta-age = (g .entry .since, (g .entry .age, g .reading))
 
   -- what `front_of` asks of it: its data is good
-  pub front-asks : FitRow e × ((tableBytes ≤ length m) × (good dataLimit (dataOf m e) ≡ true))
+  pub front-asks : FitMeta e × ((tableBytes ≤ length m) × (good dataLimit (dataOf m e) ≡ true))
   front-asks = (g .fit, (g .room, g .entry .fine))
 
-module _ (clock : ℕ) (m : List ℕ) (e f : Row) (a : ℕ) (w : a ≡ e .age + (clock - e .since)) where
+module _ (clock : ℕ) (m : List ℕ) (e f : Meta) (a : ℕ) (w : a ≡ e .age + (clock - e .since)) where
   pub old-leads : ageLimit ≤ a → leads clock (seen m e) (seen m f) ≡ false
   old-leads l = rw (le-ltb (e .age + (clock - e .since)) ageLimit (omega arith))
 
@@ -69,32 +69,32 @@ module _ (clock : ℕ) (m : List ℕ) (e f : Row) (a : ℕ) (w : a ≡ e .age + 
       rw (lt-ltb (e .age + (clock - e .since)) ageLimit (omega arith))
       (j ∙ joins-front (e .id) (f .id) (dataOf m e) x (dataOf m f) y fx fy ∙ joins-says (seen m e .says) (seen m f .says))
 
-pub few-nodes : (t : Table) (m : List ℕ) → Rows t → length (view t m) ≤ mostNodes
+pub few-nodes : (t : Table) (m : List ℕ) → Arranged t → length (view t m) ≤ mostNodes
 few-nodes t m k = rw (view-length t k m) (k .most)
 
--- ---- the row at a place
+-- ---- the entry at a place
 
-pub held : (t : Table) (m : List ℕ) → Rows t → (i : ℕ) → i < t .count → i < length (view t m)
+pub held : (t : Table) (m : List ℕ) → Arranged t → (i : ℕ) → i < t .count → i < length (view t m)
 held t m k i p = rw (view-length t k m) p
 
 module _ (clock : ℕ) (t : Table) (m : List ℕ) (g : Readable clock t m) where
   module _ (i : ℕ) (p : i < t .count) where
-    node-at : getD (vertices clock (view t m)) i noVertex ≡ vertexOf clock (seen m (rowAt t i))
-    node-at = vertex-at clock (view t m) i (seen m blank) (held t m (g .kept .rows) i p) ∙ ap (vertexOf clock) (view-at t (g .kept .rows) m i p)
+    node-at : getD (vertices clock (view t m)) i noVertex ≡ vertexOf clock (seen m (metaAt t i))
+    node-at = vertex-at clock (view t m) i (seen m blank) (held t m (g .kept .arranged) i p) ∙ ap (vertexOf clock) (view-at t (g .kept .arranged) m i p)
 
-    pub legible-at : Legible clock m (rowAt t i)
+    pub legible-at : Legible clock m (metaAt t i)
     legible-at =
-        let f : Read t i (rowAt t i) = row-read t i (g .kept .rows) p in
-        record { fit = (f .low, f .short); room = g .kept .room; entry = view-each t (g .kept .rows) (EntryFits clock) m i (g .entries) p; clock = g .clock }
+        let f : Read t i (metaAt t i) = meta-read t i (g .kept .arranged) p in
+        record { fit = (f .low, f .short); room = g .kept .room; entry = view-each t (g .kept .arranged) (EntryFits clock) m i (g .entries) p; reading = g .reading }
 
     -- what `age_at` asks of it, once it was read
-    pub age-fits : (e : Row) → Read t i e → (e .since ≤ clock) × ((e .age ≤ mostAge) × (clock ≤ lastReading))
-    age-fits e o = rw (o .same) (row-age clock m (rowAt t i) legible-at)
+    pub age-fits : (e : Meta) → Read t i e → (e .since ≤ clock) × ((e .age ≤ mostAge) × (clock ≤ lastReading))
+    age-fits e o = rw (o .same) (meta-age clock m (metaAt t i) legible-at)
 
     -- its data is a row
-    pub data-row : (x : List ℕ) → x ≡ dataOf m (rowAt t i) → isRow x ≡ true
-    data-row x e = rw e (good-row dataLimit (dataOf m (rowAt t i)) (legible-at .entry .fine))
+    pub data-row : (x : List ℕ) → x ≡ dataOf m (metaAt t i) → isRow x ≡ true
+    data-row x e = rw e (good-row dataLimit (dataOf m (metaAt t i)) (legible-at .entry .fine))
 
-  -- whether the row at place r leads to that at place v
-  pub leads-at : (r v : ℕ) → r < t .count → v < t .count → leads clock (seen m (rowAt t r)) (seen m (rowAt t v)) ≡ leadsAt clock (view t m) r v
+  -- whether the entry at place r leads to that at place v
+  pub leads-at : (r v : ℕ) → r < t .count → v < t .count → leads clock (seen m (metaAt t r)) (seen m (metaAt t v)) ≡ leadsAt clock (view t m) r v
   leads-at r v p q = rw (node-at r p, node-at v q)

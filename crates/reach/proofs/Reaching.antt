@@ -18,9 +18,9 @@ use Rattle.model.specs.Reach.{Vertex, vertices, isNode, level0, others, levels,
 use Rattle.table.specs.declared.Table.{Table}
 use Rattle.table.specs.declared.Found.{Found}
 use Rattle.table.specs.declared.Found.the-variants.{At, Missing}
-use Rattle.table.specs.View.{blank, seen, view, Rows, Stands, Gap, Finding}
-use Rattle.table.proofs.Rows.{view-length, view-at, view-ascending, look-gap}
-use Rattle.reach.specs.declared.mark.Marked.{Marked}
+use Rattle.table.specs.View.{blank, seen, view, Arranged, Stands, Gap, Finding}
+use Rattle.table.proofs.Tables.{view-length, view-at, view-ascending, look-gap}
+use Rattle.reach.specs.declared.mark.Traversed.{Traversed}
 use Rattle.reach.specs.Marks.{markedOf, noVertex, levelsAfter, Spread, Marking, Levelled}
 use Rattle.reach.proofs.Nodes.{vertex-at, vertices-length, few-nodes}
 use Rattle.base.proofs.Marks.{not-at, keep-by-places, marked-at, alone-at}
@@ -29,62 +29,62 @@ use Rattle.reach.proofs.Waves.{levels-enough}
 abbrev nodeOf : Vertex → ℕ
 nodeOf v = v .says .node
 
-above-nodes : (now n : ℕ) (t : List Entry) → Above idOf n t → Above nodeOf n (vertices now t)
-above-nodes now n [] h = tt
-above-nodes now n (e ∷ t) h = (h .0, above-nodes now n t (h .1))
+above-nodes : (clock n : ℕ) (t : List Entry) → Above idOf n t → Above nodeOf n (vertices clock t)
+above-nodes clock n [] h = tt
+above-nodes clock n (e ∷ t) h = (h .0, above-nodes clock n t (h .1))
 
-nodes-ascend : (now : ℕ) (t : List Entry) → Ascending idOf t → Ascending nodeOf (vertices now t)
-nodes-ascend now [] h = tt
-nodes-ascend now (e ∷ t) h = (above-nodes now (idOf e) t (h .0), nodes-ascend now t (h .1))
+nodes-ascend : (clock : ℕ) (t : List Entry) → Ascending idOf t → Ascending nodeOf (vertices clock t)
+nodes-ascend clock [] h = tt
+nodes-ascend clock (e ∷ t) h = (above-nodes clock (idOf e) t (h .0), nodes-ascend clock t (h .1))
 
-module _ (own now : ℕ) (t : List Entry) (a : Ascending idOf t) (few : length t ≤ mostNodes) where
-  node-is : (i : ℕ) → i < length t → nodeOf (getD (vertices now t) i noVertex) ≡ idOf (getD t i noEntry)
-  node-is i p = ap nodeOf (vertex-at now t i noEntry p)
+module _ (own clock : ℕ) (t : List Entry) (a : Ascending idOf t) (few : length t ≤ mostNodes) where
+  node-is : (i : ℕ) → i < length t → nodeOf (getD (vertices clock t) i noVertex) ≡ idOf (getD t i noEntry)
+  node-is i p = ap nodeOf (vertex-at clock t i noEntry p)
 
   -- our own node alone is marked
   module _ (i : ℕ) (p : i < length t) (e : idOf (getD t i noEntry) ≡ own) (first : List Bool) (f : first ≡ set (replicate mostNodes false) i true) where
     wide : length first ≡ mostNodes
     wide = ap length f ∙ length-set (replicate mostNodes false) i true ∙ length-replicate mostNodes false
 
-    own-at : (j : ℕ) → j < length (vertices now t) → getD first j false ≡ isNode own (getD (vertices now t) j noVertex)
+    own-at : (j : ℕ) → j < length (vertices clock t) → getD first j false ≡ isNode own (getD (vertices clock t) j noVertex)
     own-at j q =
-        rw f (alone-at nodeOf noVertex (vertices now t) own i mostNodes (nodes-ascend now t a) (rw (vertices-length now t) p) (omega arith) (node-is i p ∙ e) j q)
+        rw f (alone-at nodeOf noVertex (vertices clock t) own i mostNodes (nodes-ascend clock t a) (rw (vertices-length clock t) p) (omega arith) (node-is i p ∙ e) j q)
 
-    first-level : markedOf now t first ≡ level0 own (vertices now t)
-    first-level = keep-by-places noVertex (isNode own) first (vertices now t) own-at
+    first-level : markedOf clock t first ≡ level0 own (vertices clock t)
+    first-level = keep-by-places noVertex (isNode own) first (vertices clock t) own-at
 
-    first-rest : keepBy (map not first) (vertices now t) ≡ others own (vertices now t)
+    first-rest : keepBy (map not first) (vertices clock t) ≡ others own (vertices clock t)
     first-rest =
-        keep-by-places noVertex (λ v. not (isNode own v)) (map not first) (vertices now t)
-        (λ j q. not-at first j (omega (arith, wide, vertices-length now t)) ∙ ap not (own-at j q))
+        keep-by-places noVertex (λ v. not (isNode own v)) (map not first) (vertices clock t)
+        (λ j q. not-at first j (omega (arith, wide, vertices-length clock t)) ∙ ap not (own-at j q))
 
     -- what the levels reach is what the definition reaches
-    all-levels : levelsAfter now t first ≡ levels own (vertices now t)
+    all-levels : levelsAfter clock t first ≡ levels own (vertices clock t)
     unfolding levels
     all-levels =
-        let l : length (keep (isNode own) (vertices now t)) + length (others own (vertices now t)) ≡ length (vertices now t) = keep-length (isNode own) (vertices now t) in
-        rw (first-level, first-rest, levels-enough (length t) (length (others own (vertices now t))) (others own (vertices now t)) (level0 own (vertices now t)) (omega (arith, vertices-length now t)) (omega arith))
+        let l : length (keep (isNode own) (vertices clock t)) + length (others own (vertices clock t)) ≡ length (vertices clock t) = keep-length (isNode own) (vertices clock t) in
+        rw (first-level, first-rest, levels-enough (length t) (length (others own (vertices clock t))) (others own (vertices clock t)) (level0 own (vertices clock t)) (omega (arith, vertices-length clock t)) (omega arith))
 
-    all-found : (n : ℕ) → any (isNode n) (markedOf now t first ++ joinAll (levelsAfter now t first)) ≡ inReach own now t n
+    all-found : (n : ℕ) → any (isNode n) (markedOf clock t first ++ joinAll (levelsAfter clock t first)) ≡ inReach own clock t n
     unfolding inReach marked met
     all-found n = rw (all-levels, first-level)
 
-    levelled : (r : Marked) → Spread now t first r → Levelled own now t r
+    levelled : (r : Traversed) → Spread clock t first r → Levelled own clock t r
     levelled r s =
         record {
           marks =
               record {
                 wide = s .wide;
                 each = λ j q.
-                    sym (marked-at nodeOf noVertex (r .marks) (vertices now t) j (nodes-ascend now t a) (rw (vertices-length now t) q))
-                    ∙ ap (λ (n : ℕ). any (isNode n) (markedOf now t (r .marks))) (node-is j q) ∙ s .each (idOf (getD t j noEntry)) ∙ all-found (idOf (getD t j noEntry));
+                    sym (marked-at nodeOf noVertex (r .marks) (vertices clock t) j (nodes-ascend clock t a) (rw (vertices-length clock t) q))
+                    ∙ ap (λ (n : ℕ). any (isNode n) (markedOf clock t (r .marks))) (node-is j q) ∙ s .each (idOf (getD t j noEntry)) ∙ all-found (idOf (getD t j noEntry));
               };
           count = s .count ∙ ap length all-levels;
         }
 
 -- ---- as the code finds our own node
 
-module _ (t : Table) (m : List ℕ) (k : Rows t) (own : ℕ) (f : Found) (h : Finding t own f) where
+module _ (t : Table) (m : List ℕ) (k : Arranged t) (own : ℕ) (f : Found) (h : Finding t own f) where
   pub found-at : (i : ℕ) → f ≡ At i → Stands t own i
   found-at i e = rw e at h
 
@@ -94,7 +94,7 @@ module _ (t : Table) (m : List ℕ) (k : Rows t) (own : ℕ) (f : Found) (h : Fi
       let g : Gap t own i = rw e at h in
       no-way (isSome (look own (view t m))) s (ap isSome (look-gap t k own i m g))
 
-pub mark-by : (own clock : ℕ) (t : Table) (m : List ℕ) → Rows t → (i : ℕ) → Stands t own i → (first : List Bool) (r : Marked) → first ≡ set (replicate mostNodes false) i true
+pub mark-by : (own clock : ℕ) (t : Table) (m : List ℕ) → Arranged t → (i : ℕ) → Stands t own i → (first : List Bool) (r : Traversed) → first ≡ set (replicate mostNodes false) i true
     → Spread clock (view t m) first r → Levelled own clock (view t m) r
 mark-by own clock t m k i s first r f g =
     let p : i < length (view t m) = rw (view-length t k m) (s .at) in
@@ -103,10 +103,10 @@ mark-by own clock t m k i s first r f g =
 
 -- ---- the marked entries are those in reach
 
-pub reached-by : (own now : ℕ) (t : List Entry) (marks : List Bool) → Marking own now t marks → keepBy marks t ≡ reached own now t
+pub reached-by : (own clock : ℕ) (t : List Entry) (marks : List Bool) → Marking own clock t marks → keepBy marks t ≡ reached own clock t
 unfolding reached
-reached-by own now t marks g = keep-by-places noEntry (λ e. inReach own now t (idOf e)) marks t (g .each)
+reached-by own clock t marks g = keep-by-places noEntry (λ e. inReach own clock t (idOf e)) marks t (g .each)
 
-pub digest-reached : (own now : ℕ) (t : List Entry) (marks : List Bool) → Marking own now t marks → digestOf (statements (keepBy marks t)) ≡ networkDigest own now t
+pub digest-reached : (own clock : ℕ) (t : List Entry) (marks : List Bool) → Marking own clock t marks → digestOf (statements (keepBy marks t)) ≡ networkDigest own clock t
 unfolding networkDigest
-digest-reached own now t marks g = ap (λ (l : List Entry). digestOf (statements l)) (reached-by own now t marks g)
+digest-reached own clock t marks g = ap (λ (l : List Entry). digestOf (statements l)) (reached-by own clock t marks g)

@@ -73,75 +73,75 @@ found-next n f rest level =
 
 -- n is met, or is in one of the levels after the last, of which there are at most f
 abbrev pub foundFrom : ℕ → List Entry → ℕ → List Bool → List Bool → ℕ → Bool
-foundFrom now t f met level n =
-    any (isNode n) (markedOf now t met) || any (isNode n) (joinAll (levelsFrom f (keepBy (map not met) (vertices now t)) (markedOf now t level)))
+foundFrom clock t f met level n =
+    any (isNode n) (markedOf clock t met) || any (isNode n) (joinAll (levelsFrom f (keepBy (map not met) (vertices clock t)) (markedOf clock t level)))
 
 -- the levels after the last
 abbrev levelsLeft : ℕ → List Entry → ℕ → List Bool → List Bool → List (List Vertex)
-levelsLeft now t f met level = levelsFrom f (keepBy (map not met) (vertices now t)) (markedOf now t level)
+levelsLeft clock t f met level = levelsFrom f (keepBy (map not met) (vertices clock t)) (markedOf clock t level)
 
 unmet : (a b : Bool) → not (a || (not a && b)) ≡ not a && not b
 unmet true b = refl
 unmet false b = refl
 
-module _ (now : ℕ) (t : List Entry) (s : length t ≤ mostNodes) where
+module _ (clock : ℕ) (t : List Entry) (s : length t ≤ mostNodes) where
   -- at first
-  all-left : (first : List Bool) → levelsAfter now t first ≡ levelsLeft now t mostNodes first first
+  all-left : (first : List Bool) → levelsAfter clock t first ≡ levelsLeft clock t mostNodes first first
   all-left first =
-      let l : length (keepBy (map not first) (vertices now t)) ≤ length t = rw (← vertices-length now t) (keep-by-length (map not first) (vertices now t)) in
-      levels-enough (length t) mostNodes (keepBy (map not first) (vertices now t)) (markedOf now t first) l (omega arith)
+      let l : length (keepBy (map not first) (vertices clock t)) ≤ length t = rw (← vertices-length clock t) (keep-by-length (map not first) (vertices clock t)) in
+      levels-enough (length t) mostNodes (keepBy (map not first) (vertices clock t)) (markedOf clock t first) l (omega arith)
 
-  found-start : (first : List Bool) (n : ℕ) → any (isNode n) (markedOf now t first ++ joinAll (levelsAfter now t first)) ≡ foundFrom now t mostNodes first first n
-  found-start first n = any-joined (isNode n) (markedOf now t first) (joinAll (levelsAfter now t first)) ∙ rw (all-left first)
+  found-start : (first : List Bool) (n : ℕ) → any (isNode n) (markedOf clock t first ++ joinAll (levelsAfter clock t first)) ≡ foundFrom clock t mostNodes first first n
+  found-start first n = any-joined (isNode n) (markedOf clock t first) (joinAll (levelsAfter clock t first)) ∙ rw (all-left first)
 
   -- no level is left
-  found-end : (met level : List Bool) (n : ℕ) → foundFrom now t 0 met level n ≡ any (isNode n) (markedOf now t met)
+  found-end : (met level : List Bool) (n : ℕ) → foundFrom clock t 0 met level n ≡ any (isNode n) (markedOf clock t met)
   unfolding levelsFrom
-  found-end met level n = or-false (any (isNode n) (markedOf now t met))
+  found-end met level n = or-false (any (isNode n) (markedOf clock t met))
 
-  none-left : (met level : List Bool) → length (levelsLeft now t 0 met level) ≡ 0
+  none-left : (met level : List Bool) → length (levelsLeft clock t 0 met level) ≡ 0
   unfolding levelsFrom
   none-left met level = refl
 
-  module _ (level met next : List Bool) (w : Wide met) (e : NextLevel now t level met next) where
-    inside : (i : ℕ) → i < length (vertices now t) → i < mostNodes
-    inside i p = omega (arith, vertices-length now t)
+  module _ (level met next : List Bool) (w : Wide met) (e : NextLevel clock t level met next) where
+    inside : (i : ℕ) → i < length (vertices clock t) → i < mostNodes
+    inside i p = omega (arith, vertices-length clock t)
 
-    met-at : (i : ℕ) → i < length (vertices now t) → getD (map not met) i false ≡ not (getD met i false)
+    met-at : (i : ℕ) → i < length (vertices clock t) → getD (map not met) i false ≡ not (getD met i false)
     met-at i p = not-at met i (rw w (inside i p))
 
-    next-at : (i : ℕ) → i < length (vertices now t) → getD next i false ≡ not (getD met i false) && touched (markedOf now t level) (getD (vertices now t) i noVertex)
-    next-at i p = e .each i (rw (vertices-length now t) at p)
+    next-at : (i : ℕ) → i < length (vertices clock t) → getD next i false ≡ not (getD met i false) && touched (markedOf clock t level) (getD (vertices clock t) i noVertex)
+    next-at i p = e .each i (rw (vertices-length clock t) at p)
 
-    next-kept : markedOf now t next ≡ keep (touched (markedOf now t level)) (keepBy (map not met) (vertices now t))
-    next-kept = keep-by-both noVertex (touched (markedOf now t level)) (map not met) next (vertices now t) (λ i p. rw (met-at i p) (next-at i p))
+    next-kept : markedOf clock t next ≡ keep (touched (markedOf clock t level)) (keepBy (map not met) (vertices clock t))
+    next-kept = keep-by-both noVertex (touched (markedOf clock t level)) (map not met) next (vertices clock t) (λ i p. rw (met-at i p) (next-at i p))
 
     -- the next level adds nothing
     module _ (h : any (λ b. b) next ≡ false) (f : ℕ) where
-      left-stop : levelsLeft now t f met level ≡ []
-      left-stop = levels-stop f (keepBy (map not met) (vertices now t)) (markedOf now t level) (sym next-kept ∙ keep-by-none next (vertices now t) (λ i p. none-at next h i))
+      left-stop : levelsLeft clock t f met level ≡ []
+      left-stop = levels-stop f (keepBy (map not met) (vertices clock t)) (markedOf clock t level) (sym next-kept ∙ keep-by-none next (vertices clock t) (λ i p. none-at next h i))
 
-      found-stop : (n : ℕ) → foundFrom now t f met level n ≡ any (isNode n) (markedOf now t met)
-      found-stop n = rw left-stop (or-false (any (isNode n) (markedOf now t met)))
+      found-stop : (n : ℕ) → foundFrom clock t f met level n ≡ any (isNode n) (markedOf clock t met)
+      found-stop n = rw left-stop (or-false (any (isNode n) (markedOf clock t met)))
 
     -- or something
-    next-some : any (λ b. b) next ≡ true → 0 < length (keep (touched (markedOf now t level)) (keepBy (map not met) (vertices now t)))
-    next-some h = rw next-kept at (keep-by-some next (vertices now t) (λ i p. e .beyond i (rw (vertices-length now t) at p)) h)
+    next-some : any (λ b. b) next ≡ true → 0 < length (keep (touched (markedOf clock t level)) (keepBy (map not met) (vertices clock t)))
+    next-some h = rw next-kept at (keep-by-some next (vertices clock t) (λ i p. e .beyond i (rw (vertices-length clock t) at p)) h)
 
     module _ (all : List Bool) (v : Wide all) (o : (i : ℕ) → i < mostNodes → getD all i false ≡ getD met i false || getD next i false) where
-      rest-kept : keepBy (map not all) (vertices now t) ≡ keep (λ v. not (touched (markedOf now t level) v)) (keepBy (map not met) (vertices now t))
+      rest-kept : keepBy (map not all) (vertices clock t) ≡ keep (λ v. not (touched (markedOf clock t level) v)) (keepBy (map not met) (vertices clock t))
       rest-kept =
-          keep-by-both noVertex (λ v. not (touched (markedOf now t level) v)) (map not met) (map not all) (vertices now t)
-          (λ i p. rw (met-at i p, not-at all i (rw v (inside i p)), o i (inside i p), next-at i p) (unmet (getD met i false) (touched (markedOf now t level) (getD (vertices now t) i noVertex))))
+          keep-by-both noVertex (λ v. not (touched (markedOf clock t level) v)) (map not met) (map not all) (vertices clock t)
+          (λ i p. rw (met-at i p, not-at all i (rw v (inside i p)), o i (inside i p), next-at i p) (unmet (getD met i false) (touched (markedOf clock t level) (getD (vertices clock t) i noVertex))))
 
       -- the next level is met, and is the last
-      found-on : (f n : ℕ) → foundFrom now t (suc f) met level n ≡ foundFrom now t f all next n
+      found-on : (f n : ℕ) → foundFrom clock t (suc f) met level n ≡ foundFrom clock t f all next n
       found-on f n =
-          rw (found-next n f (keepBy (map not met) (vertices now t)) (markedOf now t level), ← next-kept, ← rest-kept, any-either (isNode n) met next all (vertices now t) (λ i p. o i (inside i p)))
-          (sym (or-assoc (any (isNode n) (markedOf now t met)) (any (isNode n) (markedOf now t next)) _))
+          rw (found-next n f (keepBy (map not met) (vertices clock t)) (markedOf clock t level), ← next-kept, ← rest-kept, any-either (isNode n) met next all (vertices clock t) (λ i p. o i (inside i p)))
+          (sym (or-assoc (any (isNode n) (markedOf clock t met)) (any (isNode n) (markedOf clock t next)) _))
 
-      left-on : any (λ b. b) next ≡ true → (f : ℕ) → length (levelsLeft now t (suc f) met level) ≡ suc (length (levelsLeft now t f all next))
-      left-on h f = rw (next-kept, rest-kept) (levels-on f (keepBy (map not met) (vertices now t)) (markedOf now t level) (next-some h))
+      left-on : any (λ b. b) next ≡ true → (f : ℕ) → length (levelsLeft clock t (suc f) met level) ≡ suc (length (levelsLeft clock t f all next))
+      left-on h f = rw (next-kept, rest-kept) (levels-on f (keepBy (map not met) (vertices clock t)) (markedOf clock t level) (next-some h))
 
 -- ---- as the code tests for it
 
@@ -155,48 +155,48 @@ one-set false e h = no-way true refl (sym e ∙ h)
 
 -- ---- the marking so far: k levels are passed, and what is met and what is still to be found are all there is
 
-pub record Waving (now : ℕ) (t : List Entry) (first : List Bool) (k : ℕ) (met level : List Bool) : Type 0 where
+pub record Waving (clock : ℕ) (t : List Entry) (first : List Bool) (k : ℕ) (met level : List Bool) : Type 0 where
   pub few : k ≤ mostNodes
   pub wide : Wide met
-  pub all : (n : ℕ) → any (isNode n) (markedOf now t first ++ joinAll (levelsAfter now t first)) ≡ foundFrom now t (mostNodes - k) met level n
-  pub count : length (levelsAfter now t first) ≡ k + length (levelsLeft now t (mostNodes - k) met level)
+  pub all : (n : ℕ) → any (isNode n) (markedOf clock t first ++ joinAll (levelsAfter clock t first)) ≡ foundFrom clock t (mostNodes - k) met level n
+  pub count : length (levelsAfter clock t first) ≡ k + length (levelsLeft clock t (mostNodes - k) met level)
 
-module _ (now : ℕ) (t : List Entry) (s : length t ≤ mostNodes) (first : List Bool) where
-  pub wave-start : Wide first → Waving now t first 0 first first
-  wave-start w = record { few = omega arith; wide = w; all = found-start now t s first; count = ap length (all-left now t s first) ∙ omega arith }
+module _ (clock : ℕ) (t : List Entry) (s : length t ≤ mostNodes) (first : List Bool) where
+  pub wave-start : Wide first → Waving clock t first 0 first first
+  wave-start w = record { few = omega arith; wide = w; all = found-start clock t s first; count = ap length (all-left clock t s first) ∙ omega arith }
 
-  module _ (k : ℕ) (w : Wave) (next : List Bool) (g : Waving now t first k (w .met) (w .level)) (e : NextLevel now t (w .level) (w .met) next) where
-    pub wave-on : {r : Bool} → r ≡ not (any (λ b. b) next) → r ≡ false → (v : Wave) → k < mostNodes → Onward w next v → Waving now t first (k + 1) (v .met) (v .level)
+  module _ (k : ℕ) (w : Wave) (next : List Bool) (g : Waving clock t first k (w .met) (w .level)) (e : NextLevel clock t (w .level) (w .met) next) where
+    pub wave-on : {r : Bool} → r ≡ not (any (λ b. b) next) → r ≡ false → (v : Wave) → k < mostNodes → Onward w next v → Waving clock t first (k + 1) (v .met) (v .level)
     wave-on n z v p o =
         let h : any (λ b. b) next ≡ true = one-set (any (λ b. b) next) n z in
         let q : mostNodes - k ≡ suc (mostNodes - (k + 1)) = omega arith in
-        let c : length (levelsLeft now t (mostNodes - k) (w .met) (w .level)) ≡ suc (length (levelsLeft now t (mostNodes - (k + 1)) (v .met) (v .level))) =
-        rw (q, o .level) (left-on now t s (w .level) (w .met) next (g .wide) e (v .met) (o .wide) (o .met) h (mostNodes - (k + 1))) in
+        let c : length (levelsLeft clock t (mostNodes - k) (w .met) (w .level)) ≡ suc (length (levelsLeft clock t (mostNodes - (k + 1)) (v .met) (v .level))) =
+        rw (q, o .level) (left-on clock t s (w .level) (w .met) next (g .wide) e (v .met) (o .wide) (o .met) h (mostNodes - (k + 1))) in
         record {
           few = omega arith;
           wide = o .wide;
           all = λ n.
-              g .all n ∙ ap (λ (f : ℕ). foundFrom now t f (w .met) (w .level) n) q
-              ∙ found-on now t s (w .level) (w .met) next (g .wide) e (v .met) (o .wide) (o .met) (mostNodes - (k + 1)) n
-              ∙ ap (λ (l : List Bool). foundFrom now t (mostNodes - (k + 1)) (v .met) l n) (sym (o .level));
+              g .all n ∙ ap (λ (f : ℕ). foundFrom clock t f (w .met) (w .level) n) q
+              ∙ found-on clock t s (w .level) (w .met) next (g .wide) e (v .met) (o .wide) (o .met) (mostNodes - (k + 1)) n
+              ∙ ap (λ (l : List Bool). foundFrom clock t (mostNodes - (k + 1)) (v .met) l n) (sym (o .level));
           count = omega (arith, c, g .count);
         }
 
-    pub wave-stop : {r : Bool} → r ≡ not (any (λ b. b) next) → r ≡ true → Spread now t first (record { marks = w .met; levels = k })
+    pub wave-stop : {r : Bool} → r ≡ not (any (λ b. b) next) → r ≡ true → Spread clock t first (record { marks = w .met; levels = k })
     wave-stop n z =
         let h : any (λ b. b) next ≡ false = none-set (any (λ b. b) next) n z in
         record {
           wide = g .wide;
-          each = λ n. sym (g .all n ∙ found-stop now t s (w .level) (w .met) next (g .wide) e h (mostNodes - k) n);
-          count = omega (arith, ap length (left-stop now t s (w .level) (w .met) next (g .wide) e h (mostNodes - k)), g .count);
+          each = λ n. sym (g .all n ∙ found-stop clock t s (w .level) (w .met) next (g .wide) e h (mostNodes - k) n);
+          count = omega (arith, ap length (left-stop clock t s (w .level) (w .met) next (g .wide) e h (mostNodes - k)), g .count);
         }
 
-  pub wave-end : (k : ℕ) (w : Wave) → Waving now t first k (w .met) (w .level) → mostNodes ≤ k → Spread now t first (record { marks = w .met; levels = k })
+  pub wave-end : (k : ℕ) (w : Wave) → Waving clock t first k (w .met) (w .level) → mostNodes ≤ k → Spread clock t first (record { marks = w .met; levels = k })
   wave-end k w g p =
       let q : mostNodes - k ≡ 0 = omega arith in
-      let c : length (levelsLeft now t (mostNodes - k) (w .met) (w .level)) ≡ 0 = rw q (none-left now t s (w .met) (w .level)) in
+      let c : length (levelsLeft clock t (mostNodes - k) (w .met) (w .level)) ≡ 0 = rw q (none-left clock t s (w .met) (w .level)) in
       record {
         wide = g .wide;
-        each = λ n. sym (g .all n ∙ ap (λ (f : ℕ). foundFrom now t f (w .met) (w .level) n) q ∙ found-end now t s (w .met) (w .level) n);
+        each = λ n. sym (g .all n ∙ ap (λ (f : ℕ). foundFrom clock t f (w .met) (w .level) n) q ∙ found-end clock t s (w .met) (w .level) n);
         count = omega (arith, c, g .count);
       }

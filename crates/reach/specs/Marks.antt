@@ -13,11 +13,11 @@ use Rattle.model.specs.State.{noEntry}
 use Rattle.model.specs.Invariant.{EntryFits}
 use Rattle.wire.specs.declared.row.Header.{Header}
 use Rattle.table.specs.declared.Table.{Table}
-use Rattle.table.specs.declared.Entry.{Entry as Row}
-use Rattle.table.specs.View.{seen, view, FitRow, Kept}
+use Rattle.table.specs.declared.Entry.{Entry as Meta}
+use Rattle.table.specs.View.{seen, view, FitMeta, Kept}
 use Rattle.reach.specs.declared.link.Link.{Link}
 use Rattle.reach.specs.declared.mark.Wave.{Wave}
-use Rattle.reach.specs.declared.mark.Marked.{Marked}
+use Rattle.reach.specs.declared.mark.Traversed.{Traversed}
 use Rattle.reach.specs.declared.Reached.{Reached}
 
 -- the bytes of the TLV that h tells of, at place `at` of s
@@ -32,10 +32,10 @@ abbrev pub joins : ℕ → List ℕ → ℕ → List ℕ → Bool
 joins r x n y = joined (record { node = r; seq = 0; nodeData = x }) (record { node = n; seq = 0; nodeData = y })
 
 -- what the marking asks of the table: kept, every entry in range with good data and taken by now, and a clock in range
-pub record Readable (now : ℕ) (t : Table) (m : List ℕ) : Type 0 where
+pub record Readable (clock : ℕ) (t : Table) (m : List ℕ) : Type 0 where
   pub kept : Kept t m
-  pub entries : All (EntryFits now) (view t m)
-  pub clock : now ≤ lastReading
+  pub entries : All (EntryFits clock) (view t m)
+  pub reading : clock ≤ lastReading
 
 -- a mark for each place of the table
 abbrev pub Wide : List Bool → Type 0
@@ -43,26 +43,26 @@ Wide marks = length marks ≡ mostNodes
 
 -- the vertices whose mark is set
 abbrev pub markedOf : ℕ → List Entry → List Bool → List Vertex
-markedOf now t marks = keepBy marks (vertices now t)
+markedOf clock t marks = keepBy marks (vertices clock t)
 
 abbrev pub noVertex : Vertex
 noVertex = record { says = noEntry .says; young = false }
 
 -- node r is young, and joined to node v
 abbrev pub leads : ℕ → Entry → Entry → Bool
-leads now r v = underAge now r && joined (r .says) (v .says)
+leads clock r v = underAge clock r && joined (r .says) (v .says)
 
--- what the marking asks of a row
-pub record Legible (now : ℕ) (m : List ℕ) (e : Row) : Type 0 where
-  pub fit : FitRow e
+-- what the marking asks of an entry
+pub record Legible (clock : ℕ) (m : List ℕ) (e : Meta) : Type 0 where
+  pub fit : FitMeta e
   pub room : tableBytes ≤ length m
-  pub entry : EntryFits now (seen m e)
-  pub clock : now ≤ lastReading
+  pub entry : EntryFits clock (seen m e)
+  pub reading : clock ≤ lastReading
 
 -- the next level: the places not yet met whose node is joined to a young node of the level
-pub record NextLevel (now : ℕ) (t : List Entry) (level met next : List Bool) : Type 0 where
+pub record NextLevel (clock : ℕ) (t : List Entry) (level met next : List Bool) : Type 0 where
   pub wide : Wide next
-  pub each : (i : ℕ) → i < length t → getD next i false ≡ not (getD met i false) && touched (markedOf now t level) (getD (vertices now t) i noVertex)
+  pub each : (i : ℕ) → i < length t → getD next i false ≡ not (getD met i false) && touched (markedOf clock t level) (getD (vertices clock t) i noVertex)
   pub beyond : (i : ℕ) → length t ≤ i → getD next i false ≡ false
 
 -- the next level joins those met, and is the last
@@ -73,25 +73,25 @@ pub record Onward (w : Wave) (next : List Bool) (r : Wave) : Type 0 where
 
 -- the levels after `first`, where `first` alone is met
 abbrev pub levelsAfter : ℕ → List Entry → List Bool → List (List Vertex)
-levelsAfter now t first = levelsFrom (length t) (keepBy (map not first) (vertices now t)) (markedOf now t first)
+levelsAfter clock t first = levelsFrom (length t) (keepBy (map not first) (vertices clock t)) (markedOf clock t first)
 
 -- all that these levels reach, and how many there are
-pub record Spread (now : ℕ) (t : List Entry) (first : List Bool) (r : Marked) : Type 0 where
+pub record Spread (clock : ℕ) (t : List Entry) (first : List Bool) (r : Traversed) : Type 0 where
   pub wide : Wide (r .marks)
-  pub each : (n : ℕ) → any (isNode n) (markedOf now t (r .marks)) ≡ any (isNode n) (markedOf now t first ++ joinAll (levelsAfter now t first))
-  pub count : r .levels ≡ length (levelsAfter now t first)
+  pub each : (n : ℕ) → any (isNode n) (markedOf clock t (r .marks)) ≡ any (isNode n) (markedOf clock t first ++ joinAll (levelsAfter clock t first))
+  pub count : r .levels ≡ length (levelsAfter clock t first)
 
 -- the marks of the table's places are those of the definition
-pub record Marking (own now : ℕ) (t : List Entry) (marks : List Bool) : Type 0 where
+pub record Marking (own clock : ℕ) (t : List Entry) (marks : List Bool) : Type 0 where
   pub wide : Wide marks
-  pub each : (i : ℕ) → i < length t → getD marks i false ≡ inReach own now t (idOf (getD t i noEntry))
+  pub each : (i : ℕ) → i < length t → getD marks i false ≡ inReach own clock t (idOf (getD t i noEntry))
 
 -- the marks, and the number of the last ring
-pub record Levelled (own now : ℕ) (t : List Entry) (r : Marked) : Type 0 where
-  pub marks : Marking own now t (r .marks)
-  pub count : r .levels ≡ length (levels own (vertices now t))
+pub record Levelled (own clock : ℕ) (t : List Entry) (r : Traversed) : Type 0 where
+  pub marks : Marking own clock t (r .marks)
+  pub count : r .levels ≡ length (levels own (vertices clock t))
 
 -- marks and network digest
-pub record Reaching (own now : ℕ) (t : List Entry) (r : Reached) : Type 0 where
-  pub marks : Marking own now t (r .marks)
-  pub digest : r .digest ≡ networkDigest own now t
+pub record Reaching (own clock : ℕ) (t : List Entry) (r : Reached) : Type 0 where
+  pub marks : Marking own clock t (r .marks)
+  pub digest : r .digest ≡ networkDigest own clock t

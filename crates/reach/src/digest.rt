@@ -4,7 +4,7 @@ use base::memory::store;
 use sha256::hash16;
 use table::Entry;
 use table::Table;
-use table::row_at;
+use table::meta_at;
 ghost use mathlib.Core.Path.{_≡_};
 ghost use mathlib.Core.List.{List, _++_};
 ghost use Prim.Native.Nat.{ℕ, _+_, _≤_};
@@ -14,7 +14,7 @@ ghost use Rattle.base.specs.Lists.{keepBy};
 ghost use Rattle.base.specs.Memory.{written};
 ghost use Rattle.model.specs.Table.{statements};
 ghost use Rattle.model.specs.Digest.{digestOf};
-ghost use Rattle.table.specs.View.{view, Rows, Kept};
+ghost use Rattle.table.specs.View.{view, Arranged, Kept};
 
 // Number and digest of one node to place `at`.
 fn put_part(d: &mut [u8], at: usize, e: Entry)
@@ -28,7 +28,7 @@ fn put_part(d: &mut [u8], at: usize, e: Entry)
 
 // The digest over the marked nodes; the digest of each data is kept with the table.
 pub fn network_digest(t: Table, marks: [bool; 32]) -> [u8; 16]
-    requires { ⌜ Rows t ⌝ }
+    requires { ⌜ Arranged t ⌝ }
     ensures { λ r. ⌜ ((m : List ℕ) → Kept t m → r ≡ digestOf (statements (keepBy marks (view t m)))) ⌝ }
 {
     let count = t.count;
@@ -37,7 +37,7 @@ pub fn network_digest(t: Table, marks: [bool; 32]) -> [u8; 16]
     let mut i = 0;
     while i < count {
         if marks[i] {
-            put_part(&mut d, n, row_at(t, i));
+            put_part(&mut d, n, meta_at(t, i));
             n += 20;
         }
         i += 1;

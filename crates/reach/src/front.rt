@@ -9,7 +9,7 @@ ghost use lib.ListN.{length, drop};
 ghost use Rattle.wire.specs.Row.{isRow};
 ghost use Rattle.wire.specs.Order.{good};
 ghost use Rattle.model.specs.Figures.{dataLimit, tableBytes};
-ghost use Rattle.table.specs.View.{dataOf, FitRow};
+ghost use Rattle.table.specs.View.{dataOf, FitMeta};
 ghost use Rattle.reach.specs.Parts.{Parted, Front};
 
 // The place, from `at` on, of the first TLV whose type is `least` or more; the end where there is none.
@@ -37,9 +37,9 @@ pub fn links_front<'a>(d: &'a [u8]) -> &'a [u8]
     &d[0..end]
 }
 
-// The front part of the data of the row e.
+// The front part of the data of the entry e.
 pub fn front_of<'a>(e: Entry, mem: &'a [u8]) -> &'a [u8]
-    requires { ⌜ FitRow e × ((tableBytes ≤ length (now mem)) × (good dataLimit (dataOf (now mem) e) ≡ true)) ⌝ }
+    requires { ⌜ FitMeta e × ((tableBytes ≤ length (now mem)) × (good dataLimit (dataOf (now mem) e) ≡ true)) ⌝ }
     ensures { λ r. ⌜ Front (dataOf (now (mem .entry)) e) (now r) ⌝ }
 {
     let a = e.slot * SLOT;

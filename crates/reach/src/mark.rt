@@ -15,7 +15,7 @@ ghost use Rattle.model.specs.Table.{look};
 ghost use Rattle.table.specs.View.{seen, view};
 ghost use Rattle.reach.specs.Marks.{Readable, Legible, Wide, leads, NextLevel, Levelled, Onward, Spread};
 
-// The node of row e is young, and joined to that of row f.
+// The node of entry e is young, and joined to that of entry f.
 fn is_leading(e: Entry, f: Entry, mem: &[u8], clock: u64) -> bool
     requires { ⌜ Legible clock (now mem) e × Legible clock (now mem) f ⌝ }
     ensures { λ b. ⌜ b ≡ leads clock (seen (now (mem .entry)) e) (seen (now (mem .entry)) f) ⌝ }
@@ -101,13 +101,13 @@ fn onward(w: Wave, next: [bool; 32]) -> Wave
 }
 
 // The marks, and how many levels there are after the first.
-pub struct Marked {
+pub struct Traversed {
     pub marks: [bool; 32],
     pub levels: usize,
 }
 
 // All that is reached from the first level, which alone is met: at most 32 levels, left at the first that adds nothing.
-fn spread(t: Table, mem: &[u8], clock: u64, first: [bool; 32]) -> Marked
+fn spread(t: Table, mem: &[u8], clock: u64, first: [bool; 32]) -> Traversed
     requires { ⌜ Readable clock t (now mem) ⌝ }
     ensures { λ r. ⌜ Spread clock (view t (now (mem .entry))) first r ⌝ }
 {
@@ -121,7 +121,7 @@ fn spread(t: Table, mem: &[u8], clock: u64, first: [bool; 32]) -> Marked
         let level = w.level;
         let next = next_level(t, mem, clock, level, met);
         if is_empty(next) {
-            return Marked {
+            return Traversed {
                 marks: met,
                 levels: k,
             };
@@ -130,18 +130,18 @@ fn spread(t: Table, mem: &[u8], clock: u64, first: [bool; 32]) -> Marked
         k += 1;
     }
     let marks = w.met;
-    Marked { marks, levels: k }
+    Traversed { marks, levels: k }
 }
 
 // The marks of the reachable nodes, and how many levels they stand in.
-pub fn mark(t: Table, mem: &[u8], own: u32, clock: u64) -> Marked
+pub fn mark(t: Table, mem: &[u8], own: u32, clock: u64) -> Traversed
     requires { ⌜ Readable clock t (now mem) × (isSome (look own (view t (now mem))) ≡ true) ⌝ }
     ensures { λ r. ⌜ Levelled own clock (view t (now (mem .entry))) r ⌝ }
 {
     let mut first = [false; 32];
     let found = find(t, own);
     let Found::At(i) = found else {
-        return Marked {
+        return Traversed {
             marks: first,
             levels: 0,
         };

@@ -5,9 +5,10 @@ use mathlib.Core.List.{List, _∷_, map}
 use Prim.Native.Nat.{ℕ, _+_, _≤_, _<_}
 use native.Mathlib.Omega.{arith}
 use lib.ListN.{length, getD, drop}
+use Rattle.base.specs.Bytes.{mostU32}
 use Rattle.base.specs.Lists.{keepBy, isSome}
 use Rattle.base.proofs.Places.{getD-any}
-use Rattle.model.specs.Figures.{mostNodes, wide}
+use Rattle.model.specs.Figures.{mostNodes}
 use Rattle.model.specs.Table.{Entry, idOf, look}
 use Rattle.model.specs.Reach.{inReach, reached}
 use Rattle.model.specs.State.{noEntry, State as ModelState}
@@ -16,8 +17,8 @@ use Rattle.model.specs.Handle.{reply, replies, digestNow, reachedNow, onRequest
 use Rattle.model.proofs.Cases.{request-network, request-node-unreachable, request-node-unknown, request-node-reached, replies-none, replies-next}
 use Rattle.model.proofs.Sent.{digest-length}
 use Rattle.table.specs.declared.Table.{Table}
-use Rattle.table.specs.View.{blank, rowAt, seen, view, Rows, Stands, Gap}
-use Rattle.table.proofs.Rows.{look-stands, look-gap, view-length, view-at}
+use Rattle.table.specs.View.{blank, metaAt, seen, view, Arranged, Stands, Gap}
+use Rattle.table.proofs.Tables.{look-stands, look-gap, view-length, view-at}
 use Rattle.reach.specs.Marks.{Readable, Marking}
 use Rattle.base.proofs.Marks.{keep-by-end, keep-by-next}
 use Rattle.reach.proofs.Nodes.{fits-readable}
@@ -46,11 +47,11 @@ module _ {c : Context} {w : Work} {m : List ℕ} (h : Markable c w m) where
 -- ---- one node's state
 
 -- the mark at a node's place tells whether it is reachable
-mark-at : (own now : ℕ) (t : Table) (m : List ℕ) (marks : List Bool) (node i : ℕ) → Rows t → Marking own now (view t m) marks → Stands t node i
-    → getD marks i false ≡ inReach own now (view t m) node
-mark-at own now t m marks node i k g s =
+mark-at : (own clock : ℕ) (t : Table) (m : List ℕ) (marks : List Bool) (node i : ℕ) → Arranged t → Marking own clock (view t m) marks → Stands t node i
+    → getD marks i false ≡ inReach own clock (view t m) node
+mark-at own clock t m marks node i k g s =
     let p : i < length (view t m) = rw (view-length t k m) (s .at) in
-    g .each i p ∙ ap (inReach own now (view t m)) (ap idOf (getD-any (view t m) i noEntry (seen m blank) p ∙ view-at t k m i (s .at)) ∙ s .named)
+    g .each i p ∙ ap (inReach own clock (view t m)) (ap idOf (getD-any (view t m) i noEntry (seen m blank) p ∙ view-at t k m i (s .at)) ∙ s .named)
 
 module _ (c : Context) (w : Work) (m r : List ℕ) (h : Sound (c .clock) w m r) (f : w .fresh ≡ true) (node i : ℕ) where
   reaching : Marking (w .state .own) (c .clock) (view (w .state .table) m) (w .reached .marks)
@@ -62,13 +63,13 @@ module _ (c : Context) (w : Work) (m r : List ℕ) (h : Sound (c .clock) w m r) 
   -- a node that is not held
   pub unknown-asked : Gap (w .state .table) node i → Stepped c 1 (onRequestNode (contextOf c) node) w m r w m r
   unknown-asked g =
-      nothing-done (request-node-unknown (contextOf c) (workOf w m r) node (rw (work-table w m r) (look-gap (w .state .table) (h .rep .table .rows) node i m g)))
+      nothing-done (request-node-unknown (contextOf c) (workOf w m r) node (rw (work-table w m r) (look-gap (w .state .table) (h .rep .table .arranged) node i m g)))
 
   module _ (s : Stands (w .state .table) node i) where
     mark-is : {b : Bool} → getD (w .reached .marks) i false ≡ b → inReach (workOf w m r .state .own) (c .clock) (workOf w m r .state .table) node ≡ b
     mark-is e =
         rw (work-own w m r, work-table w m r)
-        (sym (mark-at (w .state .own) (c .clock) (w .state .table) m (w .reached .marks) node i (h .rep .table .rows) reaching s) ∙ e)
+        (sym (mark-at (w .state .own) (c .clock) (w .state .table) m (w .reached .marks) node i (h .rep .table .arranged) reaching s) ∙ e)
 
     -- one that is not reachable
     pub unreachable-asked : getD (w .reached .marks) i false ≡ false → Stepped c 1 (onRequestNode (contextOf c) node) w m r w m r
@@ -76,12 +77,12 @@ module _ (c : Context) (w : Work) (m r : List ℕ) (h : Sound (c .clock) w m r) 
 
     -- one that is
     pub reached-asked : {v : Work} {r′ : List ℕ} → getD (w .reached .marks) i false ≡ true
-        → Stepped c 1 (reply (contextOf c) (wholeState (c .clock) (seen m (rowAt (w .state .table) i)))) w m r v m r′
+        → Stepped c 1 (reply (contextOf c) (wholeState (c .clock) (seen m (metaAt (w .state .table) i)))) w m r v m r′
         → Stepped c 1 (onRequestNode (contextOf c) node) w m r v m r′
     reached-asked e k =
         stepped-to k (onRequestNode (contextOf c) node)
-        (sym (request-node-reached (contextOf c) (workOf w m r) node (mark-is e) (seen m (rowAt (w .state .table) i))
-        (rw (work-table w m r) (look-stands (w .state .table) (h .rep .table .rows) node i m s))))
+        (sym (request-node-reached (contextOf c) (workOf w m r) node (mark-is e) (seen m (metaAt (w .state .table) i))
+        (rw (work-table w m r) (look-stands (w .state .table) (h .rep .table .arranged) node i m s))))
 
 -- ---- the states of all that are reachable
 
@@ -92,14 +93,14 @@ pub record Listed (c : Context) (t : Table) (marks : List Bool) (w : Work) (m r 
   pub left : replies (contextOf c) (map (shortState (c .clock)) (keepBy marks (view t m))) (workOf w m r)
       ≡ replies (contextOf c) (map (shortState (c .clock)) (keepBy (drop i marks) (drop i (view t m)))) (workOf v m r′)
 
-module _ (c : Context) (t : Table) (marks : List Bool) (w : Work) (m r : List ℕ) (k : Rows t) where
+module _ (c : Context) (t : Table) (marks : List Bool) (w : Work) (m r : List ℕ) (k : Arranged t) where
   pub list-start : Sound (c .clock) w m r → Listed c t marks w m r 0 w r
   list-start h = record { stepped = stepped-to (stepped-none h) (λ x. workOf w m r) refl; within = omega arith; left = refl }
 
   module _ (i : ℕ) (v : Work) (r′ : List ℕ) (l : Listed c t marks w m r i v r′) where
     module _ (p : i < t .count) where
       here : keepBy (drop i marks) (drop i (view t m))
-          ≡ cond (getD marks i false) (seen m (rowAt t i) ∷ keepBy (drop (i + 1) marks) (drop (i + 1) (view t m))) (keepBy (drop (i + 1) marks) (drop (i + 1) (view t m)))
+          ≡ cond (getD marks i false) (seen m (metaAt t i) ∷ keepBy (drop (i + 1) marks) (drop (i + 1) (view t m))) (keepBy (drop (i + 1) marks) (drop (i + 1) (view t m)))
       here = keep-by-next (seen m blank) marks (view t m) i (rw (view-length t k m) p) ∙ rw (view-at t k m i p)
 
       -- a node that is not reachable
@@ -108,14 +109,14 @@ module _ (c : Context) (t : Table) (marks : List Bool) (w : Work) (m r : List �
           record { stepped = stepped-more (l .stepped) (i + 1) (omega arith); within = omega arith; left = l .left ∙ rw (here, b) }
 
       -- one that is
-      pub list-on : getD marks i false ≡ true → (u : Work) (r″ : List ℕ) → Stepped c 1 (reply (contextOf c) (shortState (c .clock) (seen m (rowAt t i)))) v m r′ u m r″
+      pub list-on : getD marks i false ≡ true → (u : Work) (r″ : List ℕ) → Stepped c 1 (reply (contextOf c) (shortState (c .clock) (seen m (metaAt t i)))) v m r′ u m r″
           → Listed c t marks w m r (i + 1) u r″
       list-on b u r″ s =
           record {
             stepped = stepped-to (stepped-then (l .stepped) s) (λ x. workOf u m r″) (sym (s .is));
             within = omega arith;
             left = l .left ∙ rw (here, b)
-                (replies-next (contextOf c) (workOf v m r′) (shortState (c .clock) (seen m (rowAt t i))) (map (shortState (c .clock)) (keepBy (drop (i + 1) marks) (drop (i + 1) (view t m))))
+                (replies-next (contextOf c) (workOf v m r′) (shortState (c .clock) (seen m (metaAt t i))) (map (shortState (c .clock)) (keepBy (drop (i + 1) marks) (drop (i + 1) (view t m))))
                 ∙ ap (replies (contextOf c) (map (shortState (c .clock)) (keepBy (drop (i + 1) marks) (drop (i + 1) (view t m))))) (sym (s .is)));
           }
 
@@ -147,11 +148,11 @@ module _ (c : Context) (w : Work) (m r : List ℕ) (h : Ready c w m r) (f : w .f
     same-view = sym (state-table (v .state) m) ∙ ap (λ (x : ModelState). x .table) (replied-state t s) ∙ state-table (w .state) m
 
     -- what the states ask of the work after the digest
-    pub states-asked : Sound (c .clock) v m r′ × (Readable (c .clock) (v .state .table) m × (Marking (v .state .own) (c .clock) (view (v .state .table) m) (w .reached .marks) × (v .omitted + mostNodes ≤ wide)))
+    pub states-asked : Sound (c .clock) v m r′ × (Readable (c .clock) (v .state .table) m × (Marking (v .state .own) (c .clock) (view (v .state .table) m) (w .reached .marks) × (v .omitted + mostNodes ≤ mostU32)))
     states-asked = (
       s .sound,
       (
-        record { kept = s .sound .rep .table; entries = rw same-view (markable-readable (ready-markable h) .entries); clock = h .clock },
+        record { kept = s .sound .rep .table; entries = rw same-view (markable-readable (ready-markable h) .entries); reading = h .clock },
         (rw (same-own, same-view) (h .sound .cached f .marks), omega (arith, s .omitted, h .omitted)),
       ),
     )

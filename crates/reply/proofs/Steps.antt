@@ -66,7 +66,7 @@ module _ (w : Work) (m r : List ℕ) where
   work-dropped = refl
 
   -- as many bytes are written as are used
-  pub work-length : {now : ℕ} → Sound now w m r → length (workOf w m r .out) ≡ w .used
+  pub work-length : {clock : ℕ} → Sound clock w m r → length (workOf w m r .out) ≡ w .used
   work-length s = rw work-out (length-take-le (w .used) r (omega (arith, s .used, s .room)))
 
 -- ---- the work with another part
@@ -119,28 +119,28 @@ module _ (w : Work) (m r : List ℕ) where
 
 -- ---- the representation with another part
 
-module _ {now : ℕ} {w : Work} {m r : List ℕ} (h : Sound now w m r) where
+module _ {clock : ℕ} {w : Work} {m r : List ℕ} (h : Sound clock w m r) where
   -- another state over the same table: marks and digest stay
-  pub sound-state : (s : State) → Rep s m → s .own ≡ w .state .own → s .table ≡ w .state .table → Sound now (putState s (w .fresh) w) m r
+  pub sound-state : (s : State) → Rep s m → s .own ≡ w .state .own → s .table ≡ w .state .table → Sound clock (putState s (w .fresh) w) m r
   sound-state s k o t = record { rep = k; used = h .used; room = h .room; cached = λ f. rw (o, t) (h .cached f) }
 
   -- another table: they are to be worked out anew
-  pub sound-anew : (s : State) (m′ : List ℕ) → Rep s m′ → Sound now (putState s false w) m′ r
+  pub sound-anew : (s : State) (m′ : List ℕ) → Rep s m′ → Sound clock (putState s false w) m′ r
   sound-anew s m′ k = record { rep = k; used = h .used; room = h .room; cached = λ f. no-way false f refl }
 
-  pub sound-sender : (f : Sender) → Sound now (putSender f w) m r
+  pub sound-sender : (f : Sender) → Sound clock (putSender f w) m r
   sound-sender f = record { rep = h .rep; used = h .used; room = h .room; cached = h .cached }
 
-  pub sound-omitted : (n : ℕ) → Sound now (putOmitted n w) m r
+  pub sound-omitted : (n : ℕ) → Sound clock (putOmitted n w) m r
   sound-omitted n = record { rep = h .rep; used = h .used; room = h .room; cached = h .cached }
 
-  pub sound-dropped : (n : ℕ) → Sound now (putDropped n w) m r
+  pub sound-dropped : (n : ℕ) → Sound clock (putDropped n w) m r
   sound-dropped n = record { rep = h .rep; used = h .used; room = h .room; cached = h .cached }
 
-  pub sound-used : (n : ℕ) (r′ : List ℕ) → n ≤ mostBytes → length r′ ≡ length r → Sound now (putUsed n w) m r′
+  pub sound-used : (n : ℕ) (r′ : List ℕ) → n ≤ mostBytes → length r′ ≡ length r → Sound clock (putUsed n w) m r′
   sound-used n r′ p e = record { rep = h .rep; used = p; room = rw e (h .room); cached = h .cached }
 
-  pub sound-reached : (g : Reached) → Reaching (w .state .own) now (view (w .state .table) m) g → Sound now (putReached g w) m r
+  pub sound-reached : (g : Reached) → Reaching (w .state .own) clock (view (w .state .table) m) g → Sound clock (putReached g w) m r
   sound-reached g k = record { rep = h .rep; used = h .used; room = h .room; cached = λ f. k }
 
 -- ---- one step, and the next

@@ -17,7 +17,7 @@ use Rattle.reply.specs.declared.Sender.{Sender}
 use Rattle.reply.specs.declared.Work.{Work}
 
 abbrev pub contextOf : Context → ModelContext
-contextOf c = record { now = c .clock; endpoint = c .endpoint; unicast = c .unicast; others = c .others }
+contextOf c = record { clock = c .clock; endpoint = c .endpoint; unicast = c .unicast; others = c .others }
 
 abbrev pub senderOf : Sender → Option ModelSender
 senderOf f = cond (f .known) (some (record { node = f .node; endpoint = f .endpoint })) none
@@ -40,11 +40,11 @@ putTable t w =
     }
 
 -- the representation: the state's, the room, and the marks kept from before are those of the table now
-pub record Sound (now : ℕ) (w : Work) (m r : List ℕ) : Type 0 where
+pub record Sound (clock : ℕ) (w : Work) (m r : List ℕ) : Type 0 where
   pub rep : Rep (w .state) m
   pub used : w .used ≤ mostBytes
   pub room : mostBytes ≤ length r
-  pub cached : w .fresh ≡ true → Reaching (w .state .own) now (view (w .state .table) m) (w .reached)
+  pub cached : w .fresh ≡ true → Reaching (w .state .own) clock (view (w .state .table) m) (w .reached)
 
 -- what a step asks: a sound work that keeps the invariant, a reading and an endpoint in range, counts far from the end of their type
 pub record Ready (c : Context) (w : Work) (m r : List ℕ) : Type 0 where

@@ -12,8 +12,8 @@ ghost use mathlib.Core.List.{[], _++_};
 ghost use Prim.Native.Nat.{_+_, _≤_, _<_};
 ghost use lib.Dec.{eqb};
 ghost use lib.ListN.{length};
+ghost use Rattle.base.specs.Bytes.{mostU32};
 ghost use Rattle.base.specs.Memory.{written};
-ghost use Rattle.model.specs.Figures.{wide};
 ghost use Rattle.model.specs.Messages.{endpointTlv, requestNodeTlv};
 ghost use Rattle.model.specs.Handle.{reply, askNetwork};
 ghost use Rattle.reply.specs.View.{contextOf, Sound, Ready, Stepped};
@@ -42,7 +42,7 @@ fn put_head(room: &mut [u8], used: usize, own: u32, endpoint: u32) -> usize
 
 // A reply TLV, given in two parts; left out where it does not fit whole.
 pub fn reply(w: Work, mem: &[u8], room: &mut [u8], c: Context, front: &[u8], back: &[u8]) -> Work
-    requires { ⌜ Sound (c .clock) w (now mem) (now room) × ((w .omitted < wide) × (length (now front) + length (now back) ≤ 4000)) ⌝ }
+    requires { ⌜ Sound (c .clock) w (now mem) (now room) × ((w .omitted < mostU32) × (length (now front) + length (now back) ≤ 4000)) ⌝ }
     ensures { λ v. ⌜ Stepped c 1 (reply (contextOf c) (now (front .entry) ++ now (back .entry))) w (now (mem .entry)) (now (room .entry)) v (now (mem .entry)) (now (room .exit)) ⌝ }
 {
     let mut next = w;

@@ -10,16 +10,16 @@ use table::Found;
 use table::age_at;
 use table::data_of;
 use table::find;
-use table::row_at;
+use table::meta_at;
 ghost use mathlib.Core.Path.{_≡_};
 ghost use mathlib.Core.List.{_++_, map};
 ghost use Prim.Native.Nat.{_+_, _-_, _≤_, _<_, min};
 ghost use lib.ListN.{length};
-ghost use Rattle.base.specs.Bytes.{big16, big32};
-ghost use Rattle.model.specs.Figures.{mostNodes, mostAge, dataLimit, lastReading, wide};
+ghost use Rattle.base.specs.Bytes.{big16, big32, mostU32};
+ghost use Rattle.model.specs.Figures.{mostNodes, mostAge, dataLimit, lastReading};
 ghost use Rattle.model.specs.Messages.{shortState, wholeState};
 ghost use Rattle.model.specs.Handle.{reply, replies, reachedNow, onRequestNetwork, onRequestNode};
-ghost use Rattle.table.specs.View.{seen, view, rowAt};
+ghost use Rattle.table.specs.View.{seen, view, metaAt};
 ghost use Rattle.reach.specs.Marks.{Readable, Marking};
 ghost use Rattle.reply.specs.View.{contextOf, workOf, Sound, Ready, Stepped, Markable, Refreshed};
 
@@ -50,7 +50,7 @@ fn sent_age(e: Entry, clock: u64) -> u32
 }
 
 // Header and head of the Node State of e, with `len` bytes of data.
-fn front_of(e: Entry, clock: u64, len: usize) -> [u8; 32]
+fn node_state_front(e: Entry, clock: u64, len: usize) -> [u8; 32]
     requires { ⌜ (e .since ≤ clock) × ((e .age ≤ mostAge) × ((clock ≤ lastReading) × ((len ≤ dataLimit) × (length (e .hash) ≡ 16)))) ⌝ }
     ensures { λ r. ⌜ r ≡ big16 5 ++ (big16 (28 + len) ++ (big32 (e .id) ++ (big32 (e .seq) ++ (big32 (min (e .age + (clock - e .since)) mostAge) ++ e .hash)))) ⌝ }
 {
@@ -60,7 +60,7 @@ fn front_of(e: Entry, clock: u64, len: usize) -> [u8; 32]
 
 // A Node State without data for each reachable node, ascending; `marks` are those of the table.
 fn reply_states(w: Work, mem: &[u8], room: &mut [u8], c: Context, marks: [bool; 32]) -> Work
-    requires { ⌜ Sound (c .clock) w (now mem) (now room) × (Readable (c .clock) (w .state .table) (now mem) × (Marking (w .state .own) (c .clock) (view (w .state .table) (now mem)) marks × (w .omitted + mostNodes ≤ wide))) ⌝ }
+    requires { ⌜ Sound (c .clock) w (now mem) (now room) × (Readable (c .clock) (w .state .table) (now mem) × (Marking (w .state .own) (c .clock) (view (w .state .table) (now mem)) marks × (w .omitted + mostNodes ≤ mostU32))) ⌝ }
     ensures { λ v. ⌜ Stepped c 32 (replies (contextOf c) (map (shortState (c .clock)) (reachedNow (contextOf c) (workOf w (now (mem .entry)) (now (room .entry)))))) w (now (mem .entry)) (now (room .entry)) v (now (mem .entry)) (now (room .exit)) ⌝ }
 {
     let t = w.state.table;
@@ -69,7 +69,7 @@ fn reply_states(w: Work, mem: &[u8], room: &mut [u8], c: Context, marks: [bool; 
     let mut i = 0;
     while i < count {
         if marks[i] {
-            let front = front_of(row_at(t, i), c.clock, 0);
+            let front = node_state_front(meta_at(t, i), c.clock, 0);
             v = reply(v, mem, room, c, &front, &mem[0..0]);
         }
         i += 1;
@@ -93,11 +93,11 @@ pub fn on_request_network(w: Work, mem: &[u8], room: &mut [u8], c: Context) -> W
 // The Node State, with data, of the node at place i.
 fn reply_whole(w: Work, mem: &[u8], room: &mut [u8], c: Context, i: usize) -> Work
     requires { ⌜ Ready c w (now mem) (now room) × (i < w .state .table .count) ⌝ }
-    ensures { λ v. ⌜ Stepped c 1 (reply (contextOf c) (wholeState (c .clock) (seen (now (mem .entry)) (rowAt (w .state .table) i)))) w (now (mem .entry)) (now (room .entry)) v (now (mem .entry)) (now (room .exit)) ⌝ }
+    ensures { λ v. ⌜ Stepped c 1 (reply (contextOf c) (wholeState (c .clock) (seen (now (mem .entry)) (metaAt (w .state .table) i)))) w (now (mem .entry)) (now (room .entry)) v (now (mem .entry)) (now (room .exit)) ⌝ }
 {
     let t = w.state.table;
-    let e = row_at(t, i);
-    let front = front_of(e, c.clock, e.len);
+    let e = meta_at(t, i);
+    let front = node_state_front(e, c.clock, e.len);
     reply(w, mem, room, c, &front, data_of(t, mem, i))
 }
 

@@ -7,19 +7,20 @@ use Prim.Native.Nat.{ℕ, _*_, _≤_, _<_}
 use native.Mathlib.Omega.{arith}
 use lib.ListN.{length, take, drop, length-append, length-take}
 use lib.Dec.{ltb, leb}
+use Rattle.base.specs.Bytes.{mostU32}
 use Rattle.base.specs.Lists.{keep, joinAll}
 use Rattle.base.proofs.Tests.{by-test}
 use Rattle.base.proofs.Options.{nothing, by-option, cond-yes, or-else-some}
 use Rattle.wire.specs.Row.{lengthOf, valueOf, sizeOf, tlvs}
 use Rattle.wire.specs.Order.{good}
 use Rattle.wire.specs.Groups.{Read, above, upTo, anyGroups, readGroups}
-use Rattle.wire.specs.Payment.{Payment, most, readPayment}
+use Rattle.wire.specs.Payment.{Payment, readPayment}
 use Rattle.wire.proofs.Good.{Whole, Wholes, tlvs-whole, tlvs-joined, good-row, good-fits}
 use Rattle.model.specs.Figures.{dataLimit}
 use Rattle.model.specs.Table.{Entry, statements}
 use Rattle.model.specs.Totals.{isPayment, paymentsIn, readable}
 use Rattle.model.proofs.Totals.{paymentsOf, readable-append}
-use Rattle.accounts.specs.Tallied.{AllGood}
+use Rattle.table.specs.View.{AllGood}
 
 -- ---- a readable payment takes eight bytes at least
 
@@ -51,10 +52,10 @@ read-shorter m s r e = up-to-shorter m s (anyGroups 0 s) r (any-shorter 0 s) e
 payment-long : (v : List ℕ) (p : Payment) → readPayment v ≡ some p → 3 ≤ length v
 unfolding readPayment
 payment-long v p e =
-    or-else-some (readGroups most v) _ p e
-    (λ h eh kh. or-else-some (readGroups most (h .rest)) _ p kh
-    (λ r er kr. or-else-some (readGroups most (r .rest)) _ p kr
-    (λ a ea ka. omega (arith, read-shorter most v h eh, read-shorter most (h .rest) r er, read-shorter most (r .rest) a ea))))
+    or-else-some (readGroups mostU32 v) _ p e
+    (λ h eh kh. or-else-some (readGroups mostU32 (h .rest)) _ p kh
+    (λ r er kr. or-else-some (readGroups mostU32 (r .rest)) _ p kr
+    (λ a ea ka. omega (arith, read-shorter mostU32 v h eh, read-shorter mostU32 (h .rest) r er, read-shorter mostU32 (r .rest) a ea))))
 
 tlv-long : (t : List ℕ) (p : Payment) → Whole t → readPayment (valueOf t) ≡ some p → 8 ≤ length t
 unfolding valueOf sizeOf

@@ -16,12 +16,12 @@ use Rattle.model.specs.Table.{Entry, statements}
 use Rattle.model.specs.Totals.{paymentsIn}
 use Rattle.model.proofs.Totals.{payments-good, tally-mag, ofHousehold, total-is}
 use Rattle.table.specs.declared.Table.{Table}
-use Rattle.table.specs.View.{blank, rowAt, dataOf, seen, view, Kept}
-use Rattle.table.proofs.Rows.{view-length}
-use Rattle.accounts.specs.Tallied.{AllGood, alone, mostPayments}
+use Rattle.table.specs.View.{blank, metaAt, dataOf, seen, view, Kept, AllGood}
+use Rattle.table.proofs.Tables.{view-length}
+use Rattle.accounts.specs.Tallied.{alone, mostPayments}
 use Rattle.report.specs.Steps.{Small, Cleared, Summed, Totals}
 use Rattle.report.proofs.Adding.{totals-none, totals-then, summed-says}
-use Rattle.accounts.proofs.Sums.{row-inside, row-says}
+use Rattle.accounts.proofs.Sums.{meta-inside, meta-says}
 
 -- the marked nodes below place i are summed
 abbrev pub Below : List Bool → List Entry → List ℤ → List Bool → ℕ → Type 0
@@ -56,7 +56,7 @@ module _ (marks : List Bool) (t : List Entry) (s : List ℤ) (b : List Bool) whe
     below-end : length t ≤ i → Totals (statements (keepBy marks t)) s b
     below-end l = rw (take-all i t l) at d
 
--- ---- as the code goes over its table: row by row, each with its data in the table memory
+-- ---- as the code goes over its table: entry by entry, each with its data in the table memory
 
 module _ (t : Table) (m : List ℕ) (k : Kept t m) where
   module _ (marks : List Bool) (s : List ℤ) (b : List Bool) where
@@ -65,14 +65,14 @@ module _ (t : Table) (m : List ℕ) (k : Kept t m) where
 
     module _ (i : ℕ) (d : Below marks (view t m) s b i) where
       pub sums-room : AllGood (view t m) → i < t .count → Small mostPayments s
-      sums-room g p = below-room marks (view t m) s b i d g (omega (arith, k .rows .most))
+      sums-room g p = below-room marks (view t m) s b i d g (omega (arith, k .arranged .most))
 
       pub sums-stay : i < t .count → getD marks i false ≡ false → Below marks (view t m) s b (i + 1)
-      sums-stay p q = below-stay marks (view t m) s b i d (seen m blank) (row-inside t m k i p) q
+      sums-stay p q = below-stay marks (view t m) s b i d (seen m blank) (meta-inside t m k i p) q
 
-      pub sums-on : i < t .count → getD marks i false ≡ true → (n : List ℕ) → n ≡ dataOf m (rowAt t i) → (s′ : List ℤ) (b′ : List Bool)
+      pub sums-on : i < t .count → getD marks i false ≡ true → (n : List ℕ) → n ≡ dataOf m (metaAt t i) → (s′ : List ℤ) (b′ : List Bool)
           → Summed (alone n ∷ []) s b s′ b′ → Below marks (view t m) s′ b′ (i + 1)
-      sums-on p q n e s′ b′ u = below-on marks (view t m) s b i d (seen m blank) (row-inside t m k i p) n s′ b′ q (row-says t m k i p n e) u
+      sums-on p q n e s′ b′ u = below-on marks (view t m) s b i d (seen m blank) (meta-inside t m k i p) n s′ b′ q (meta-says t m k i p n e) u
 
       pub sums-end : t .count ≤ i → Totals (statements (keepBy marks (view t m))) s b
-      sums-end l = below-end marks (view t m) s b i d (rw (view-length t (k .rows) m) l)
+      sums-end l = below-end marks (view t m) s b i d (rw (view-length t (k .arranged) m) l)

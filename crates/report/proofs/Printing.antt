@@ -26,14 +26,13 @@ use Rattle.model.specs.Totals.{paymentsIn, readable, totalOf, sumOf}
 use Rattle.model.proofs.Totals.{payments-good, tally-mag, ofHousehold, anyPayment, total-is, sum-is}
 use Rattle.model.proofs.Snapshots.{load-fits}
 use Rattle.table.specs.declared.Table.{Table}
-use Rattle.table.specs.View.{view, Kept}
-use Rattle.table.proofs.Rows.{view-length}
+use Rattle.table.specs.View.{view, Kept, AllGood}
+use Rattle.table.proofs.Tables.{view-length}
 use Rattle.reach.specs.Marks.{Readable, Reaching}
 use Rattle.reach.specs.declared.Reached.{Reached}
 use Rattle.reach.proofs.Reaching.{reached-by}
 use Rattle.snapshot.specs.declared.load.Loaded.{Loaded}
 use Rattle.snapshot.specs.Answers.{LoadedFrom}
-use Rattle.accounts.specs.Tallied.{AllGood}
 use Rattle.report.specs.Report.{decimal, signed, heading, allName, line, refusedLine, upTo, report, printed, reportBytes, PrintedTo}
 use Rattle.report.specs.Steps.{Put, sumAt, markAt, paidIn, Totals, linesTo, lines}
 use Rattle.report.proofs.Digits.{decimal-short, signed-short}
@@ -126,7 +125,7 @@ module _ (t : Table) (m : List ℕ) (k : Kept t m) (g : AllGood (view t m)) (mar
   marked-good = all-keep-by (λ e. good dataLimit (e .says .nodeData) ≡ true) marks (view t m) g
 
   pub marked-few : length (keepBy marks (view t m)) ≤ mostNodes
-  marked-few = omega (arith, keep-by-length marks (view t m), view-length t (k .rows) m, k .rows .most)
+  marked-few = omega (arith, keep-by-length marks (view t m), view-length t (k .arranged) m, k .arranged .most)
 
 -- ---- what is printed
 
@@ -154,7 +153,7 @@ module _ (bytes m : List ℕ) (f : Loaded) (m′ : List ℕ) (l : LoadedFrom 0 b
     fits-all = load-fits 0 bytes (record { own = f .own; entries = view (f .table) m′ }) (l .loads ok)
 
     pub loaded-readable : Readable 0 (f .table) m′
-    loaded-readable = record { kept = l .kept ok; entries = fits-all .table .entries; clock = omega arith }
+    loaded-readable = record { kept = l .kept ok; entries = fits-all .table .entries; reading = omega arith }
 
     pub loaded-held : isSome (look (f .own) (view (f .table) m′)) ≡ true
     loaded-held = fits-all .table .held

@@ -16,8 +16,7 @@ ghost use lib.ListN.{length};
 ghost use Rattle.base.specs.Lists.{keepBy};
 ghost use Rattle.model.specs.Figures.{tableBytes};
 ghost use Rattle.model.specs.Table.{statements};
-ghost use Rattle.table.specs.View.{view, Kept};
-ghost use Rattle.accounts.specs.Tallied.{AllGood};
+ghost use Rattle.table.specs.View.{view, Kept, AllGood};
 ghost use Rattle.report.specs.Report.{report, reportBytes, PrintedTo};
 ghost use Rattle.report.specs.Steps.{Put, Wide, households, lines};
 

@@ -12,8 +12,8 @@ ghost use Rattle.base.specs.Lists.{keepBy};
 ghost use Rattle.wire.specs.Order.{good};
 ghost use Rattle.model.specs.Figures.{dataLimit};
 ghost use Rattle.model.specs.Table.{statements};
-ghost use Rattle.table.specs.View.{view, Kept};
-ghost use Rattle.accounts.specs.Tallied.{mostPayments, alone, AllGood};
+ghost use Rattle.table.specs.View.{view, Kept, AllGood};
+ghost use Rattle.accounts.specs.Tallied.{mostPayments, alone};
 ghost use Rattle.report.specs.Steps.{Wide, Small, Cleared, pays, Added, Summed, Totals};
 
 // Numbers 0 to the highest household: a place for each in the lent sums.

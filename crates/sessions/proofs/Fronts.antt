@@ -14,36 +14,36 @@ use Rattle.model.specs.Figures.{dataLimit, tableBytes}
 use Rattle.model.specs.Table.{Entry, entryOf}
 use Rattle.model.specs.Invariant.{Valid}
 use Rattle.table.specs.declared.Table.{Table}
-use Rattle.table.specs.declared.Entry.{Entry as Row}
-use Rattle.table.specs.View.{live, dataOf, seen, view, FitRow, Fit, Rows, Hashed}
+use Rattle.table.specs.declared.Entry.{Entry as Meta}
+use Rattle.table.specs.View.{live, dataOf, seen, view, FitMeta, Fit, Arranged, Hashed}
 use Rattle.node.specs.declared.State.{State}
 use Rattle.node.specs.View.{stateOf}
 use Rattle.ledger.specs.Promises.{AsLeft}
 use Rattle.sessions.specs.Kept.{Goes}
 
 -- a slot ends within the table's bytes
-data-front : (m : List ℕ) (e : Row) → FitRow e → dataOf (take tableBytes m) e ≡ dataOf m e
+data-front : (m : List ℕ) (e : Meta) → FitMeta e → dataOf (take tableBytes m) e ≡ dataOf m e
 data-front m e f = take-drop-take (e .len) (e .slot * dataLimit) tableBytes m (omega (arith, f .0, f .1))
 
 module _ (m m′ : List ℕ) (e : take tableBytes m ≡ take tableBytes m′) where
-  data-same : (r : Row) → FitRow r → dataOf m r ≡ dataOf m′ r
+  data-same : (r : Meta) → FitMeta r → dataOf m r ≡ dataOf m′ r
   data-same r f = sym (data-front m r f) ∙ ap (λ (x : List ℕ). dataOf x r) e ∙ data-front m′ r f
 
-  seen-same : (l : List Row) → Fit l → map (seen m) l ≡ map (seen m′) l
+  seen-same : (l : List Meta) → Fit l → map (seen m) l ≡ map (seen m′) l
   seen-same [] f = refl
   seen-same (r ∷ l) f =
       ap (λ (d : List ℕ). entryOf (r .id) (r .seq) d (r .age) (r .since) ∷ map (seen m) l) (data-same r (f .0))
       ∙ ap (λ (x : List Entry). seen m′ r ∷ x) (seen-same l (f .1))
 
-  hashed-same : (l : List Row) → Fit l → Hashed m l → Hashed m′ l
+  hashed-same : (l : List Meta) → Fit l → Hashed m l → Hashed m′ l
   hashed-same [] f h = h
   hashed-same (r ∷ l) f h = (h .0 ∙ ap hash16 (data-same r (f .0)), hashed-same l (f .1) (h .1))
 
-  view-same : (t : Table) → Rows t → view t m ≡ view t m′
+  view-same : (t : Table) → Arranged t → view t m ≡ view t m′
   unfolding view
   view-same t k = seen-same (live t) (k .fit)
 
-  state-same : (s : State) → Rows (s .table) → stateOf s m ≡ stateOf s m′
+  state-same : (s : State) → Arranged (s .table) → stateOf s m ≡ stateOf s m′
   unfolding stateOf
   state-same s k = rw (view-same (s .table) k)
 
@@ -51,12 +51,12 @@ module _ (m m′ : List ℕ) (e : take tableBytes m ≡ take tableBytes m′) wh
 left-same : (s : State) (m m′ : List ℕ) → (tableBytes ≤ length m′ → (tableBytes ≤ length m) × (take tableBytes m ≡ take tableBytes m′)) → AsLeft s m → AsLeft s m′
 left-same s m m′ h l =
     record {
-      rows = l .rows;
+      arranged = l .arranged;
       peers = l .peers;
       four = l .four;
       digest = l .digest;
-      hashed = λ room. hashed-same m m′ (h room .1) (live (s .table)) (l .rows .fit) (l .hashed (h room .0));
-      valid = λ room. subst Valid (state-same m m′ (h room .1) s (l .rows)) (l .valid (h room .0));
+      hashed = λ room. hashed-same m m′ (h room .1) (live (s .table)) (l .arranged .fit) (l .hashed (h room .0));
+      valid = λ room. subst Valid (state-same m m′ (h room .1) s (l .arranged)) (l .valid (h room .0));
     }
 
 -- to the part that is lent

@@ -64,7 +64,7 @@ module _ (clock table : ℕ) (s : ModelState) where
 pub receive-room : (c : Call) (s : ModelState) → receive c s .number ≡ 0 → tableBytes ≤ c .table
 unfolding receive
 receive-room c s h =
-    endpoint-accepted (c .now) s (c .endpoint) (c .table) (c .room) (long (c .datagram) ∷ noRow (c .datagram) ∷ []) (omega arith)
+    endpoint-accepted (c .clock) s (c .endpoint) (c .table) (c .room) (long (c .datagram) ∷ noRow (c .datagram) ∷ []) (omega arith)
     (accepted (λ (d : ModelAnswer). d .number) (refusalReceive c s) _ _ refl h) .1 .1 .1 .0
 
 -- ---- so a call keeps the premise, and a small memory as it was

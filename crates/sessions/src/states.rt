@@ -12,11 +12,11 @@ use node::peers::Peers;
 use table::Entry;
 use table::SLOT;
 use table::Table;
-use table::row_at;
+use table::meta_at;
 ghost use Prim.Native.Nat.{_≤_, _<_};
 ghost use lib.ListN.{length};
 ghost use Rattle.model.specs.Figures.{mostNodes, dataLimit, tableBytes};
-ghost use Rattle.table.specs.View.{Rows};
+ghost use Rattle.table.specs.View.{Arranged};
 ghost use Rattle.node.specs.View.{PeersRep};
 ghost use Rattle.ledger.specs.Promises.{AsLeft};
 
@@ -36,12 +36,12 @@ fn node(e: Entry, mem: &[u8])
 
 // All nodes, ascending.
 fn nodes(t: Table, mem: &[u8])
-    requires { ⌜ Rows t × (tableBytes ≤ length (now mem)) ⌝ }
+    requires { ⌜ Arranged t × (tableBytes ≤ length (now mem)) ⌝ }
 {
     let count = t.count;
     let mut i = 0;
     while i < count {
-        node(row_at(t, i), mem);
+        node(meta_at(t, i), mem);
         i += 1;
     }
 }

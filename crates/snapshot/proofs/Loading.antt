@@ -16,40 +16,40 @@ use Rattle.model.specs.Table.{Entry, entryOf, idOf, look, put}
 use Rattle.model.specs.Snapshot.{consTo, loadEntries, holdsOwn, load}
 use Rattle.model.proofs.Snapshots.{last-end, last-more, onto, onto-start, onto-next, onto-end}
 use Rattle.table.specs.declared.Table.{Table}
-use Rattle.table.specs.View.{rowAt, view, Kept, Gap, Stored}
-use Rattle.table.proofs.Rows.{view-length, view-each, all-stored}
+use Rattle.table.specs.View.{metaAt, view, Kept, Gap, Stored}
+use Rattle.table.proofs.Tables.{view-length, view-each, all-stored}
 use Rattle.snapshot.specs.declared.read.EntryRead.{EntryRead}
 use Rattle.snapshot.specs.declared.read.EntryRead.the-variants.{Whole, NoEntry}
 use Rattle.snapshot.specs.declared.read.HeadRead.{HeadRead}
 use Rattle.snapshot.specs.declared.read.HeadRead.the-variants.{Head, NoHead}
-use Rattle.snapshot.specs.Answers.{Stands, ReadEntry, Heads, ReadHead, LoadedFrom}
+use Rattle.snapshot.specs.Answers.{EntryAt, ReadEntry, Heads, ReadHead, LoadedFrom}
 use Rattle.snapshot.proofs.Reading.{Stops}
 
 -- ---- what reading one entry answers
 
 module _ (s : List ℕ) (at low : ℕ) (r : EntryRead) (h : ReadEntry s at low r) where
-  pub entry-told : (node seq age start size : ℕ) → r ≡ Whole node seq age start size → Stands s at low node seq age start size
+  pub entry-told : (node seq age start size : ℕ) → r ≡ Whole node seq age start size → EntryAt s at low node seq age start size
   entry-told node seq age start size q = subst (ReadEntry s at low) q h
 
   pub no-entry : r ≡ NoEntry → Stops s at low
   no-entry q = subst (ReadEntry s at low) q h
 
 -- the same with a number of entries that are left: one fewer after this one, or nothing loads
-module _ (s : List ℕ) (at low : ℕ) (now count k : ℕ) (p : k < count) where
-  left-on : (node seq age start size : ℕ) → Stands s at low node seq age start size
-      → loadEntries now (count - k) low (drop at s) ≡ consTo (entryOf node seq (take size (drop start s)) age now) (loadEntries now (count - (k + 1)) (node + 1) (drop (start + size) s))
-  left-on node seq age start size x = let e : count - k ≡ count - (k + 1) + 1 = omega arith in rw e (x .loads now (count - (k + 1)))
+module _ (s : List ℕ) (at low : ℕ) (clock count k : ℕ) (p : k < count) where
+  left-on : (node seq age start size : ℕ) → EntryAt s at low node seq age start size
+      → loadEntries clock (count - k) low (drop at s) ≡ consTo (entryOf node seq (take size (drop start s)) age clock) (loadEntries clock (count - (k + 1)) (node + 1) (drop (start + size) s))
+  left-on node seq age start size x = let e : count - k ≡ count - (k + 1) + 1 = omega arith in rw e (x .loads clock (count - (k + 1)))
 
-  left-stops : Stops s at low → loadEntries now (count - k) low (drop at s) ≡ none
-  left-stops x = let e : count - k ≡ count - (k + 1) + 1 = omega arith in rw e (x now (count - (k + 1)))
+  left-stops : Stops s at low → loadEntries clock (count - k) low (drop at s) ≡ none
+  left-stops x = let e : count - k ≡ count - (k + 1) + 1 = omega arith in rw e (x clock (count - (k + 1)))
 
 -- none is left: the end, or more bytes
-module _ (s : List ℕ) (at low : ℕ) (now count k : ℕ) (p : count ≤ k) where
-  left-end : length s ≤ at → loadEntries now (count - k) low (drop at s) ≡ some []
-  left-end h = let e : count - k ≡ 0 = omega arith in rw e (last-end now low (drop at s) (simp length-drop (omega arith)))
+module _ (s : List ℕ) (at low : ℕ) (clock count k : ℕ) (p : count ≤ k) where
+  left-end : length s ≤ at → loadEntries clock (count - k) low (drop at s) ≡ some []
+  left-end h = let e : count - k ≡ 0 = omega arith in rw e (last-end clock low (drop at s) (simp length-drop (omega arith)))
 
-  left-more : at < length s → loadEntries now (count - k) low (drop at s) ≡ none
-  left-more h = let e : count - k ≡ 0 = omega arith in rw e (last-more now low (drop at s) (simp length-drop (omega arith)))
+  left-more : at < length s → loadEntries clock (count - k) low (drop at s) ≡ none
+  left-more h = let e : count - k ≡ 0 = omega arith in rw e (last-more clock low (drop at s) (simp length-drop (omega arith)))
 
 -- ---- the judgement
 
@@ -86,126 +86,126 @@ module _ (own : ℕ) (held : Bool) (e : Entry) where
 -- k entries from place at on are read, up to place `place`; what is left, with what was held so far, is judged as the whole
 pub record Judging (s : List ℕ) (at count own place low : ℕ) (held : Bool) (k : ℕ) : Type 0 where
   pub inside : place ≤ length s
-  pub same : (now : ℕ) → judged own held (loadEntries now (count - k) low (drop place s)) ≡ judged own false (loadEntries now count 0 (drop at s))
+  pub same : (clock : ℕ) → judged own held (loadEntries clock (count - k) low (drop place s)) ≡ judged own false (loadEntries clock count 0 (drop at s))
 
 -- what the code answers
 abbrev pub Judged : List ℕ → ℕ → ℕ → ℕ → Bool → Type 0
-Judged s at count own r = (now : ℕ) → r ≡ isSome (orElse (loadEntries now count 0 (drop at s)) none (holdsOwn own))
+Judged s at count own r = (clock : ℕ) → r ≡ isSome (orElse (loadEntries clock count 0 (drop at s)) none (holdsOwn own))
 
 pub judging-start : (s : List ℕ) (at count own : ℕ) → at ≤ length s → Judging s at count own at 0 false 0
-judging-start s at count own h = record { inside = h; same = λ now. let e : count - 0 ≡ count = omega arith in rw e }
+judging-start s at count own h = record { inside = h; same = λ clock. let e : count - 0 ≡ count = omega arith in rw e }
 
 module _ (s : List ℕ) (at count own place low : ℕ) (held : Bool) (k : ℕ) (j : Judging s at count own place low held k) where
-  answer : (b : Bool) → ((now : ℕ) → judged own held (loadEntries now (count - k) low (drop place s)) ≡ b) → Judged s at count own b
-  answer b f now = sym (f now) ∙ j .same now ∙ judged-whole own (loadEntries now count 0 (drop at s))
+  answer : (b : Bool) → ((clock : ℕ) → judged own held (loadEntries clock (count - k) low (drop place s)) ≡ b) → Judged s at count own b
+  answer b f clock = sym (f clock) ∙ j .same clock ∙ judged-whole own (loadEntries clock count 0 (drop at s))
 
   pub judged-stops : k < count → Stops s place low → Judged s at count own false
   unfolding judged
-  judged-stops p x = answer false (λ now. ap (judged own held) (left-stops s place low now count k p x))
+  judged-stops p x = answer false (λ clock. ap (judged own held) (left-stops s place low clock count k p x))
 
   pub judged-more : count ≤ k → place < length s → Judged s at count own false
   unfolding judged
-  judged-more p h = answer false (λ now. ap (judged own held) (left-more s place low now count k p h))
+  judged-more p h = answer false (λ clock. ap (judged own held) (left-more s place low clock count k p h))
 
   pub judged-end : count ≤ k → length s ≤ place → Judged s at count own held
-  judged-end p h = answer held (λ now. ap (judged own held) (left-end s place low now count k p h) ∙ judged-none own held)
+  judged-end p h = answer held (λ clock. ap (judged own held) (left-end s place low clock count k p h) ∙ judged-none own held)
 
-  module _ (p : k < count) (node seq age start size : ℕ) (x : Stands s place low node seq age start size) where
-    past : (b : Bool) → ((now : ℕ) (o : Option (List Entry)) → judged own held (consTo (entryOf node seq (take size (drop start s)) age now) o) ≡ judged own b o)
+  module _ (p : k < count) (node seq age start size : ℕ) (x : EntryAt s place low node seq age start size) where
+    past : (b : Bool) → ((clock : ℕ) (o : Option (List Entry)) → judged own held (consTo (entryOf node seq (take size (drop start s)) age clock) o) ≡ judged own b o)
         → Judging s at count own (start + size) (node + 1) b (k + 1)
     past b f =
         record {
           inside = x .within;
-          same = λ now.
-              sym (f now (loadEntries now (count - (k + 1)) (node + 1) (drop (start + size) s)))
-              ∙ ap (judged own held) (sym (left-on s place low now count k p node seq age start size x)) ∙ j .same now;
+          same = λ clock.
+              sym (f clock (loadEntries clock (count - (k + 1)) (node + 1) (drop (start + size) s)))
+              ∙ ap (judged own held) (sym (left-on s place low clock count k p node seq age start size x)) ∙ j .same clock;
         }
 
     pub judging-own : node ≡ own → Judging s at count own (start + size) (node + 1) true (k + 1)
-    judging-own q = past true (λ now o. judged-own own held (entryOf node seq (take size (drop start s)) age now) o q)
+    judging-own q = past true (λ clock o. judged-own own held (entryOf node seq (take size (drop start s)) age clock) o q)
 
     pub judging-other : ¬ (node ≡ own) → Judging s at count own (start + size) (node + 1) held (k + 1)
-    judging-other q = past held (λ now o. judged-other own held (entryOf node seq (take size (drop start s)) age now) o q)
+    judging-other q = past held (λ clock o. judged-other own held (entryOf node seq (take size (drop start s)) age clock) o q)
 
 -- ---- the table as it fills
 
 -- k entries from place at on are read, up to place `place`, and the table t with its memory m holds them: what it holds, before what is left, is what loads
-pub record Filling (now : ℕ) (s : List ℕ) (at count : ℕ) (m₀ : List ℕ) (t : Table) (m : List ℕ) (place low k : ℕ) : Type 0 where
+pub record Filling (clock : ℕ) (s : List ℕ) (at count : ℕ) (m₀ : List ℕ) (t : Table) (m : List ℕ) (place low k : ℕ) : Type 0 where
   pub inside : place ≤ length s
   pub kept : Kept t m
   pub full : t .count ≡ k
   pub below : All (λ e. idOf e < low) (view t m)
-  pub same : onto (view t m) (loadEntries now (count - k) low (drop place s)) ≡ loadEntries now count 0 (drop at s)
+  pub same : onto (view t m) (loadEntries clock (count - k) low (drop place s)) ≡ loadEntries clock count 0 (drop at s)
   pub size : length m ≡ length m₀
   pub beyond : drop tableBytes m ≡ drop tableBytes m₀
 
-pub filling-start : (now : ℕ) (s : List ℕ) (at count : ℕ) (m : List ℕ) (t : Table) → at ≤ length s → Kept t m × (view t m ≡ []) → Filling now s at count m t m at 0 0
-filling-start now s at count m t p h =
+pub filling-start : (clock : ℕ) (s : List ℕ) (at count : ℕ) (m : List ℕ) (t : Table) → at ≤ length s → Kept t m × (view t m ≡ []) → Filling clock s at count m t m at 0 0
+filling-start clock s at count m t p h =
     let e : count - 0 ≡ count = omega arith in
     record {
       inside = p;
       kept = h .0;
-      full = sym (view-length t (h .0 .rows) m) ∙ ap length (h .1);
+      full = sym (view-length t (h .0 .arranged) m) ∙ ap length (h .1);
       below = rw (h .1) tt;
-      same = rw (h .1, e) (onto-start (loadEntries now count 0 (drop at s)));
+      same = rw (h .1, e) (onto-start (loadEntries clock count 0 (drop at s)));
       size = refl;
       beyond = refl;
     }
 
-module _ (now : ℕ) (s : List ℕ) (at count : ℕ) (m₀ : List ℕ) (t : Table) (m : List ℕ) (place low k : ℕ) (f : Filling now s at count m₀ t m place low k) where
+module _ (clock : ℕ) (s : List ℕ) (at count : ℕ) (m₀ : List ℕ) (t : Table) (m : List ℕ) (place low k : ℕ) (f : Filling clock s at count m₀ t m place low k) where
   -- the next entry goes in at the end
-  module _ (p : k < count) (node seq age start size : ℕ) (x : Stands s place low node seq age start size) where
+  module _ (p : k < count) (node seq age start size : ℕ) (x : EntryAt s place low node seq age start size) where
     pub next-gap : Gap t node k
     next-gap = record { at = omega (arith, f .full); below = under; above = λ q. absurd (omega (arith, f .full)) }
       where
-        under : (j : ℕ) → j < k → rowAt t j .id < node
+        under : (j : ℕ) → j < k → metaAt t j .id < node
         under j q =
             let c : j < t .count = omega (arith, f .full) in
-            let n : rowAt t j .id < low = view-each t (f .kept .rows) (λ e. idOf e < low) m j (f .below) c in
+            let n : metaAt t j .id < low = view-each t (f .kept .arranged) (λ e. idOf e < low) m j (f .below) c in
             omega (arith, x .high)
 
-    module _ (r : Table) (m′ : List ℕ) (st : Stored (entryOf node seq (take (start + size - start) (drop start s)) age now) t m k r m′) (l : length m′ ≡ length m) where
+    module _ (r : Table) (m′ : List ℕ) (st : Stored (entryOf node seq (take (start + size - start) (drop start s)) age clock) t m k r m′) (l : length m′ ≡ length m) where
       under-node : (b : ℕ) → node ≤ b → All (λ e. idOf e < b) (view t m)
       under-node b q = all-more (λ e. idOf e < low) (λ e. idOf e < b) (λ e n. omega (arith, x .high)) (view t m) (f .below)
 
-      grown : view r m′ ≡ view t m ++ (entryOf node seq (take size (drop start s)) age now ∷ [])
+      grown : view r m′ ≡ view t m ++ (entryOf node seq (take size (drop start s)) age clock ∷ [])
       unfolding put
       grown =
           let e : start + size - start ≡ size = omega arith in
-          rw e at (st .viewed) ∙ insert-last idOf (entryOf node seq (take size (drop start s)) age now) (view t m) (under-node node (omega arith))
+          rw e at (st .viewed) ∙ insert-last idOf (entryOf node seq (take size (drop start s)) age clock) (view t m) (under-node node (omega arith))
 
-      pub filling-next : Filling now s at count m₀ r m′ (start + size) (node + 1) (k + 1)
+      pub filling-next : Filling clock s at count m₀ r m′ (start + size) (node + 1) (k + 1)
       filling-next =
           record {
             inside = x .within;
             kept = st .kept;
             full =
-                let g = length-append (view t m) (entryOf node seq (take size (drop start s)) age now ∷ []) in
+                let g = length-append (view t m) (entryOf node seq (take size (drop start s)) age clock ∷ []) in
                 let c : length (view r m′) ≡ length (view t m) + 1 = ap length grown ∙ g in
-                omega (arith, view-length r (st .kept .rows) m′, view-length t (f .kept .rows) m, f .full);
-            below = all-stored (λ e. idOf e < node + 1) (entryOf node seq (take (start + size - start) (drop start s)) age now) t r m m′ k st (omega arith) (under-node (node + 1) (omega arith));
+                omega (arith, view-length r (st .kept .arranged) m′, view-length t (f .kept .arranged) m, f .full);
+            below = all-stored (λ e. idOf e < node + 1) (entryOf node seq (take (start + size - start) (drop start s)) age clock) t r m m′ k st (omega arith) (under-node (node + 1) (omega arith));
             same =
                 rw grown
-                (sym (onto-next (view t m) (entryOf node seq (take size (drop start s)) age now) (loadEntries now (count - (k + 1)) (node + 1) (drop (start + size) s)))
-                ∙ ap (onto (view t m)) (sym (left-on s place low now count k p node seq age start size x)) ∙ f .same);
+                (sym (onto-next (view t m) (entryOf node seq (take size (drop start s)) age clock) (loadEntries clock (count - (k + 1)) (node + 1) (drop (start + size) s)))
+                ∙ ap (onto (view t m)) (sym (left-on s place low clock count k p node seq age start size x)) ∙ f .same);
             size = l ∙ f .size;
             beyond = st .beyond ∙ f .beyond;
           }
 
   -- what was judged whole does not stop on the way, and ends with the last entry
-  module _ (whole : isSome (loadEntries now count 0 (drop at s)) ≡ true) where
-    never : {X : Type 0} → loadEntries now (count - k) low (drop place s) ≡ none → X
-    never e = no-way (isSome (loadEntries now count 0 (drop at s))) whole (ap isSome (sym (f .same) ∙ ap (onto (view t m)) e))
+  module _ (whole : isSome (loadEntries clock count 0 (drop at s)) ≡ true) where
+    never : {X : Type 0} → loadEntries clock (count - k) low (drop place s) ≡ none → X
+    never e = no-way (isSome (loadEntries clock count 0 (drop at s))) whole (ap isSome (sym (f .same) ∙ ap (onto (view t m)) e))
 
     pub never-stops : {X : Type 0} → k < count → Stops s place low → X
-    never-stops p x = never (left-stops s place low now count k p x)
+    never-stops p x = never (left-stops s place low clock count k p x)
 
     pub filled : count ≤ k
-        → Kept t m × ((loadEntries now count 0 (drop at s) ≡ some (view t m)) × ((length m ≡ length m₀) × (drop tableBytes m ≡ drop tableBytes m₀)))
-    filled p = (f .kept, (by-order place (length s) (λ q. never (left-more s place low now count k p q)) (λ q. ends (omega arith)) (λ q. ends (omega arith)), (f .size, f .beyond)))
+        → Kept t m × ((loadEntries clock count 0 (drop at s) ≡ some (view t m)) × ((length m ≡ length m₀) × (drop tableBytes m ≡ drop tableBytes m₀)))
+    filled p = (f .kept, (by-order place (length s) (λ q. never (left-more s place low clock count k p q)) (λ q. ends (omega arith)) (λ q. ends (omega arith)), (f .size, f .beyond)))
       where
-        ends : length s ≤ place → loadEntries now count 0 (drop at s) ≡ some (view t m)
-        ends q = sym (f .same) ∙ ap (onto (view t m)) (left-end s place low now count k p q) ∙ onto-end (view t m)
+        ends : length s ≤ place → loadEntries clock count 0 (drop at s) ≡ some (view t m)
+        ends q = sym (f .same) ∙ ap (onto (view t m)) (left-end s place low clock count k p q) ∙ onto-end (view t m)
 
 -- ---- the whole
 
@@ -213,11 +213,11 @@ module _ (s : List ℕ) (r : HeadRead) (h : ReadHead s r) where
   pub head-told : (own count next : ℕ) → r ≡ Head own count next → Heads s own count next
   head-told own count next q = subst (ReadHead s) q h
 
-  pub no-head : r ≡ NoHead → (now : ℕ) → load now s ≡ none
+  pub no-head : r ≡ NoHead → (clock : ℕ) → load clock s ≡ none
   no-head q = subst (ReadHead s) q h
 
-pub refused : (now : ℕ) (s m : List ℕ) (own : ℕ) (t : Table) → load now s ≡ none → LoadedFrom now s m (record { ok = false; own = own; table = t }) m
-refused now s m own t e =
+pub refused : (clock : ℕ) (s m : List ℕ) (own : ℕ) (t : Table) → load clock s ≡ none → LoadedFrom clock s m (record { ok = false; own = own; table = t }) m
+refused clock s m own t e =
     record { judged = sym (ap isSome e); refused = λ q. refl; kept = λ q. no-way false q refl; loads = λ q. no-way false q refl; size = refl; beyond = refl }
 
 some-not : {X : Type 0} (o : Option X) → isSome o ≡ false → o ≡ none
@@ -233,20 +233,20 @@ some-chosen true x e = refl
 some-chosen false x e = no-way false e refl
 
 -- what the judgement b of the entries behind the numbers says
-module _ (now : ℕ) (s : List ℕ) (own count next : ℕ) (h : Heads s own count next) (b : Bool) (j : Judged s next count own b) where
-  pub judged-no : b ≡ false → load now s ≡ none
-  judged-no e = h .loads now ∙ some-not (orElse (loadEntries now count 0 (drop next s)) none (holdsOwn own)) (sym (j now) ∙ e)
+module _ (clock : ℕ) (s : List ℕ) (own count next : ℕ) (h : Heads s own count next) (b : Bool) (j : Judged s next count own b) where
+  pub judged-no : b ≡ false → load clock s ≡ none
+  judged-no e = h .loads clock ∙ some-not (orElse (loadEntries clock count 0 (drop next s)) none (holdsOwn own)) (sym (j clock) ∙ e)
 
   module _ (e : b ≡ true) where
-    pub judged-yes : isSome (loadEntries now count 0 (drop next s)) ≡ true
-    judged-yes = some-before (loadEntries now count 0 (drop next s)) (holdsOwn own) (sym (j now) ∙ e)
+    pub judged-yes : isSome (loadEntries clock count 0 (drop next s)) ≡ true
+    judged-yes = some-before (loadEntries clock count 0 (drop next s)) (holdsOwn own) (sym (j clock) ∙ e)
 
     module _ (m : List ℕ) (t : Table) (m′ : List ℕ)
-        (f : Kept t m′ × ((loadEntries now count 0 (drop next s) ≡ some (view t m′)) × ((length m′ ≡ length m) × (drop tableBytes m′ ≡ drop tableBytes m)))) where
-      loads : load now s ≡ some (record { own = own; entries = view t m′ })
+        (f : Kept t m′ × ((loadEntries clock count 0 (drop next s) ≡ some (view t m′)) × ((length m′ ≡ length m) × (drop tableBytes m′ ≡ drop tableBytes m)))) where
+      loads : load clock s ≡ some (record { own = own; entries = view t m′ })
       loads =
-          let q : orElse (loadEntries now count 0 (drop next s)) none (holdsOwn own) ≡ holdsOwn own (view t m′) = rw (f .1 .0) in
-          h .loads now ∙ q ∙ some-chosen (isSome (look own (view t m′))) (record { own = own; entries = view t m′ }) (ap isSome (sym q) ∙ sym (j now) ∙ e)
+          let q : orElse (loadEntries clock count 0 (drop next s)) none (holdsOwn own) ≡ holdsOwn own (view t m′) = rw (f .1 .0) in
+          h .loads clock ∙ q ∙ some-chosen (isSome (look own (view t m′))) (record { own = own; entries = view t m′ }) (ap isSome (sym q) ∙ sym (j clock) ∙ e)
 
-      pub loaded : LoadedFrom now s m (record { ok = true; own = own; table = t }) m′
+      pub loaded : LoadedFrom clock s m (record { ok = true; own = own; table = t }) m′
       loaded = record { judged = sym (ap isSome loads); refused = λ q. no-way true refl q; kept = λ q. f .0; loads = λ q. loads; size = f .1 .1 .0; beyond = f .1 .1 .1 }

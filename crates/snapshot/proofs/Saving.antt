@@ -1,4 +1,4 @@
--- Saving: a row of the table as the entry that it shows, and the snapshot piece by piece. Assumes nothing.
+-- Saving: a table entry as the model has it, and the snapshot piece by piece. Assumes nothing.
 use mathlib.Core.Path.{_≡_, refl, sym, ap, _∙_, subst}
 use mathlib.Core.List.{List, _++_}
 use Prim.Native.Nat.{ℕ, _+_, _-_, _*_, _≤_, _<_, min}
@@ -19,19 +19,19 @@ use Rattle.model.specs.Invariant.{EntryFits, TableFits}
 use Rattle.model.specs.Snapshot.{saveEntry, saved}
 use Rattle.model.proofs.Snapshots.{savedHead, savedEntries, entryBytes, headBytes, saved-is, entries-next, entry-put, entry-end, head-short, entry-short, save-short}
 use Rattle.table.specs.declared.Table.{Table}
-use Rattle.table.specs.declared.Entry.{Entry as Row}
-use Rattle.table.specs.View.{blank, rowAt, dataOf, seen, view, FitRow, Kept, Read}
-use Rattle.table.proofs.Rows.{row-read, view-length, view-at, data-length}
-use Rattle.snapshot.specs.Answers.{saying, SavedTo}
+use Rattle.table.specs.declared.Entry.{Entry as Meta}
+use Rattle.table.specs.View.{blank, metaAt, dataOf, seen, view, FitMeta, Kept, Read, entryWith}
+use Rattle.table.proofs.Tables.{meta-read, view-length, view-at, data-length}
+use Rattle.snapshot.specs.Answers.{SavedTo}
 
--- a row that fits is short, and so is an age as it is saved
-pub record Short (r : Row) (bytes : List ℕ) : Type 0 where
+-- an entry that fits is short, and so is an age as it is saved
+pub record Short (r : Meta) (bytes : List ℕ) : Type 0 where
   pub id : length (groups (r .id)) ≤ 5
   pub seq : length (groups (r .seq)) ≤ 5
   pub size : length (groups (r .len)) ≤ 2
   pub most : length bytes ≤ dataLimit
 
-pub short-row : (clock : ℕ) (r : Row) (bytes : List ℕ) → EntryFits clock (saying r bytes) → r .len ≡ length bytes → Short r bytes
+pub short-row : (clock : ℕ) (r : Meta) (bytes : List ℕ) → EntryFits clock (entryWith r bytes) → r .len ≡ length bytes → Short r bytes
 short-row clock r bytes f e =
     let l : length bytes ≤ dataLimit = good-fits dataLimit bytes (f .fine) in
     record {
@@ -44,8 +44,8 @@ short-row clock r bytes f e =
 pub short-age : (age cap : ℕ) → cap ≡ min age mostAge → length (groups cap) ≤ 5
 short-age age cap e = groups-length 4 cap (omega arith)
 
--- what the code writes of the row r, whose data are the bytes, and where it ends
-module _ (r : Row) (bytes : List ℕ) (clock at : ℕ) (d d1 d2 d3 d4 d5 : List ℕ) (a1 a2 a3 a4 age cap : ℕ)
+-- what the code writes of the entry r, whose data are the bytes, and where it ends
+module _ (r : Meta) (bytes : List ℕ) (clock at : ℕ) (d d1 d2 d3 d4 d5 : List ℕ) (a1 a2 a3 a4 age cap : ℕ)
     (e1 : d1 ≡ written d at (groups (r .id))) (q1 : a1 ≡ at + length (groups (r .id)))
     (e2 : d2 ≡ written d1 a1 (groups (r .seq))) (q2 : a2 ≡ a1 + length (groups (r .seq)))
     (old : age ≡ r .age + (clock - r .since)) (most : cap ≡ min age mostAge)
@@ -55,58 +55,58 @@ module _ (r : Row) (bytes : List ℕ) (clock at : ℕ) (d d1 d2 d3 d4 d5 : List 
   capped-age : cap ≡ min (r .age + (clock - r .since)) mostAge
   capped-age = most ∙ ap (λ (n : ℕ). min n mostAge) old
 
-  pub row-saved : (d5 ≡ written d at (saveEntry clock (saying r bytes))) × (a4 + length bytes ≡ at + length (saveEntry clock (saying r bytes)))
-  row-saved = (
-    entry-put d at clock (saying r bytes) d1 d2 d3 d4 d5 a1 a2 a3 a4 e1 q1 e2 q2 (rw capped-age at e3) (rw capped-age at q3) (rw size at e4) (rw size at q4) e5 fits,
-    entry-end d at clock (saying r bytes) d1 d2 d3 d4 d5 a1 a2 a3 a4 e1 q1 e2 q2 (rw capped-age at e3) (rw capped-age at q3) (rw size at e4) (rw size at q4) e5 fits,
+  pub meta-saved : (d5 ≡ written d at (saveEntry clock (entryWith r bytes))) × (a4 + length bytes ≡ at + length (saveEntry clock (entryWith r bytes)))
+  meta-saved = (
+    entry-put d at clock (entryWith r bytes) d1 d2 d3 d4 d5 a1 a2 a3 a4 e1 q1 e2 q2 (rw capped-age at e3) (rw capped-age at q3) (rw size at e4) (rw size at q4) e5 fits,
+    entry-end d at clock (entryWith r bytes) d1 d2 d3 d4 d5 a1 a2 a3 a4 e1 q1 e2 q2 (rw capped-age at e3) (rw capped-age at q3) (rw size at e4) (rw size at q4) e5 fits,
   )
 
--- the row at place i of the table
+-- the entry at place i of the table
 module _ (t : Table) (m : List ℕ) (i : ℕ) (k : Kept t m) (p : i < t .count) where
-  pub row-fit : FitRow (rowAt t i) × (tableBytes ≤ length m)
-  row-fit = let f : Read t i (rowAt t i) = row-read t i (k .rows) p in ((f .low, f .short), k .room)
+  pub meta-fit : FitMeta (metaAt t i) × (tableBytes ≤ length m)
+  meta-fit = let f : Read t i (metaAt t i) = meta-read t i (k .arranged) p in ((f .low, f .short), k .room)
 
-  module _ (bytes : List ℕ) (e : bytes ≡ dataOf m (rowAt t i)) where
-    pub entry-seen : getD (view t m) i noEntry ≡ saying (rowAt t i) bytes
-    entry-seen = getD-any (view t m) i noEntry (seen m blank) (rw (view-length t (k .rows) m) p) ∙ view-at t (k .rows) m i p ∙ ap (saying (rowAt t i)) (sym e)
+  module _ (bytes : List ℕ) (e : bytes ≡ dataOf m (metaAt t i)) where
+    pub entry-seen : getD (view t m) i noEntry ≡ entryWith (metaAt t i) bytes
+    entry-seen = getD-any (view t m) i noEntry (seen m blank) (rw (view-length t (k .arranged) m) p) ∙ view-at t (k .arranged) m i p ∙ ap (entryWith (metaAt t i)) (sym e)
 
-    pub row-fits : (own clock : ℕ) → TableFits own clock (view t m) → EntryFits clock (saying (rowAt t i) bytes)
-    row-fits own clock f = subst (EntryFits clock) entry-seen (all-at (EntryFits clock) noEntry (view t m) i (f .entries) (rw (view-length t (k .rows) m) p))
+    pub meta-fits : (own clock : ℕ) → TableFits own clock (view t m) → EntryFits clock (entryWith (metaAt t i) bytes)
+    meta-fits own clock f = subst (EntryFits clock) entry-seen (all-at (EntryFits clock) noEntry (view t m) i (f .entries) (rw (view-length t (k .arranged) m) p))
 
-    pub row-size : rowAt t i .len ≡ length bytes
+    pub row-size : metaAt t i .len ≡ length bytes
     row-size = sym (ap length e ∙ data-length t m i k p .0)
 
 -- ---- the snapshot, entry by entry
 
 -- the first i entries of the table are written to d from place at on, and d′ and a are the room then and the place behind them
-pub record Through (now : ℕ) (t : List Entry) (d : List ℕ) (at : ℕ) (d′ : List ℕ) (a i : ℕ) : Type 0 where
+pub record Through (clock : ℕ) (t : List Entry) (d : List ℕ) (at : ℕ) (d′ : List ℕ) (a i : ℕ) : Type 0 where
   pub part : i ≤ length t
-  pub front : d′ ≡ written d at (savedEntries now (take i t))
-  pub place : a ≡ at + length (savedEntries now (take i t))
+  pub front : d′ ≡ written d at (savedEntries clock (take i t))
+  pub place : a ≡ at + length (savedEntries clock (take i t))
   pub size : length d′ ≡ length d
 
-module _ (own now : ℕ) (t : List Entry) (fits : TableFits own now t) (d : List ℕ) (at : ℕ) where
-  pub through-start : Through now t d at d at 0
+module _ (own clock : ℕ) (t : List Entry) (fits : TableFits own clock t) (d : List ℕ) (at : ℕ) where
+  pub through-start : Through clock t d at d at 0
   through-start = record { part = omega arith; front = sym (written-none d at); place = omega arith; size = refl }
 
-  module _ (low : at ≤ headBytes) (room : snapshotBytes ≤ length d) (d′ : List ℕ) (a i : ℕ) (h : Through now t d at d′ a i) where
+  module _ (low : at ≤ headBytes) (room : snapshotBytes ≤ length d) (d′ : List ℕ) (a i : ℕ) (h : Through clock t d at d′ a i) where
     -- room for one more, which goes in behind
     pub through-room : i < length t → a + entryBytes ≤ length d′
-    through-room p = omega (arith, h .place, h .size, fits .nodes, save-short now now t i (fits .entries) (h .part))
+    through-room p = omega (arith, h .place, h .size, fits .nodes, save-short clock clock t i (fits .entries) (h .part))
 
-    module _ (d″ : List ℕ) (b : ℕ) (p : i < length t) (e : d″ ≡ written d′ a (saveEntry now (getD t i noEntry))) (q : b ≡ a + length (saveEntry now (getD t i noEntry))) where
-      short : a + length (saveEntry now (getD t i noEntry)) ≤ length d′
-      short = omega (arith, through-room p, entry-short now now (getD t i noEntry) (all-at (EntryFits now) noEntry t i (fits .entries) p))
+    module _ (d″ : List ℕ) (b : ℕ) (p : i < length t) (e : d″ ≡ written d′ a (saveEntry clock (getD t i noEntry))) (q : b ≡ a + length (saveEntry clock (getD t i noEntry))) where
+      short : a + length (saveEntry clock (getD t i noEntry)) ≤ length d′
+      short = omega (arith, through-room p, entry-short clock clock (getD t i noEntry) (all-at (EntryFits clock) noEntry t i (fits .entries) p))
 
-      pub through-next : Through now t d at d″ b (i + 1)
+      pub through-next : Through clock t d at d″ b (i + 1)
       through-next =
-          let n : savedEntries now (take (i + 1) t) ≡ savedEntries now (take i t) ++ saveEntry now (getD t i noEntry) = entries-next now t i noEntry p in
-          let l = length-append (savedEntries now (take i t)) (saveEntry now (getD t i noEntry)) in
+          let n : savedEntries clock (take (i + 1) t) ≡ savedEntries clock (take i t) ++ saveEntry clock (getD t i noEntry) = entries-next clock t i noEntry p in
+          let l = length-append (savedEntries clock (take i t)) (saveEntry clock (getD t i noEntry)) in
           record {
             part = omega arith;
-            front = rw n (written-more d at (savedEntries now (take i t)) (saveEntry now (getD t i noEntry)) d′ d″ a (h .front) (h .place) e (omega (arith, short, h .size)));
+            front = rw n (written-more d at (savedEntries clock (take i t)) (saveEntry clock (getD t i noEntry)) d′ d″ a (h .front) (h .place) e (omega (arith, short, h .size)));
             place = rw n (omega (arith, h .place));
-            size = ap length e ∙ written-length d′ (saveEntry now (getD t i noEntry)) a short ∙ h .size;
+            size = ap length e ∙ written-length d′ (saveEntry clock (getD t i noEntry)) a short ∙ h .size;
           }
 
 -- the numbers before the entries
@@ -121,15 +121,15 @@ module _ (own n : ℕ) (d d1 d2 d3 : List ℕ) (a1 a2 a3 : ℕ)
   head-put h = written-three d 0 (groups 1) (groups own) (groups n) d1 d2 d3 a1 a2 e1 q1 e2 q2 e3 (omega arith)
 
 -- all of it
-pub all-saved : (own now : ℕ) (t : List Entry) (d d3 d4 : List ℕ) (at a i : ℕ) → TableFits own now t → own < circle → snapshotBytes ≤ length d
-    → d3 ≡ written d 0 (savedHead own (length t)) → at ≡ length (savedHead own (length t)) → Through now t d3 at d4 a i → length t ≤ i → SavedTo (saved own now t) d d4 a
-all-saved own now t d d3 d4 at a i fits o room e q h p =
+pub all-saved : (own clock : ℕ) (t : List Entry) (d d3 d4 : List ℕ) (at a i : ℕ) → TableFits own clock t → own < circle → snapshotBytes ≤ length d
+    → d3 ≡ written d 0 (savedHead own (length t)) → at ≡ length (savedHead own (length t)) → Through clock t d3 at d4 a i → length t ≤ i → SavedTo (saved own clock t) d d4 a
+all-saved own clock t d d3 d4 at a i fits o room e q h p =
     let w : take i t ≡ t = take-all i t p in
-    let front : d4 ≡ written d3 at (savedEntries now t) = rw w at (h .front) in
-    let place : a ≡ at + length (savedEntries now t) = rw w at (h .place) in
-    let short : length (savedEntries now (take i t)) ≤ entryBytes * i = save-short now now t i (fits .entries) (h .part) in
-    let l = length-append (savedHead own (length t)) (savedEntries now t) in
+    let front : d4 ≡ written d3 at (savedEntries clock t) = rw w at (h .front) in
+    let place : a ≡ at + length (savedEntries clock t) = rw w at (h .place) in
+    let short : length (savedEntries clock (take i t)) ≤ entryBytes * i = save-short clock clock t i (fits .entries) (h .part) in
+    let l = length-append (savedHead own (length t)) (savedEntries clock t) in
     record {
-      front = rw (saved-is own now t) (written-more d 0 (savedHead own (length t)) (savedEntries now t) d3 d4 at e (omega arith) front (omega (arith, rw w at short, h .part, fits .nodes, head-short own (length t) o (fits .nodes))));
-      size = rw (saved-is own now t) (omega arith);
+      front = rw (saved-is own clock t) (written-more d 0 (savedHead own (length t)) (savedEntries clock t) d3 d4 at e (omega arith) front (omega (arith, rw w at short, h .part, fits .nodes, head-short own (length t) o (fits .nodes))));
+      size = rw (saved-is own clock t) (omega arith);
     }

@@ -5,13 +5,13 @@ use mathlib.Core.List.{List}
 use mathlib.Core.Option.{none, some}
 use Prim.Native.Nat.{ℕ, _+_, _≤_, _<_}
 use lib.ListN.{length, take, drop}
+use Rattle.base.specs.Bytes.{mostU32}
 use Rattle.base.specs.Lists.{orElse, isSome}
 use Rattle.base.specs.Memory.{written}
 use Rattle.wire.specs.Order.{good}
-use Rattle.model.specs.Figures.{mostNodes, dataLimit, tableBytes, mostAge, wide}
-use Rattle.model.specs.Table.{Entry, entryOf}
+use Rattle.model.specs.Figures.{mostNodes, dataLimit, tableBytes, mostAge}
+use Rattle.model.specs.Table.{entryOf}
 use Rattle.model.specs.Snapshot.{consTo, loadEntries, holdsOwn, load}
-use Rattle.table.specs.declared.Entry.{Entry as Row}
 use Rattle.table.specs.View.{view, Kept}
 use Rattle.snapshot.specs.declared.read.EntryRead.{EntryRead}
 use Rattle.snapshot.specs.declared.read.EntryRead.the-variants.{Whole, NoEntry}
@@ -19,48 +19,44 @@ use Rattle.snapshot.specs.declared.read.HeadRead.{HeadRead}
 use Rattle.snapshot.specs.declared.read.HeadRead.the-variants.{Head, NoHead}
 use Rattle.snapshot.specs.declared.load.Loaded.{Loaded}
 
--- the row e, where its data are the bytes d
-abbrev pub saying : Row → List ℕ → Entry
-saying e d = entryOf (e .id) (e .seq) d (e .age) (e .since)
-
 -- the bytes are written to the front of the room, and r is how many; every other byte stays
 pub record SavedTo (bytes room : List ℕ) (room′ : List ℕ) (r : ℕ) : Type 0 where
   pub front : room′ ≡ written room 0 bytes
   pub size : r ≡ length bytes
 
 -- an entry with an identifier from `low` on stands at place `at` of s; its data are the `size` bytes from `start` on
-pub record Stands (s : List ℕ) (at low node seq age start size : ℕ) : Type 0 where
+pub record EntryAt (s : List ℕ) (at low node seq age start size : ℕ) : Type 0 where
   pub high : low ≤ node
-  pub nodeFits : node ≤ wide
-  pub seqFits : seq ≤ wide
+  pub nodeFits : node ≤ mostU32
+  pub seqFits : seq ≤ mostU32
   pub ageFits : age ≤ mostAge
   pub onward : at < start
   pub within : start + size ≤ length s
   pub short : size ≤ dataLimit
   pub fine : good dataLimit (take size (drop start s)) ≡ true
-  pub loads : (now n : ℕ) → loadEntries now (n + 1) low (drop at s)
-      ≡ consTo (entryOf node seq (take size (drop start s)) age now) (loadEntries now n (node + 1) (drop (start + size) s))
+  pub loads : (clock n : ℕ) → loadEntries clock (n + 1) low (drop at s)
+      ≡ consTo (entryOf node seq (take size (drop start s)) age clock) (loadEntries clock n (node + 1) (drop (start + size) s))
 
 abbrev pub ReadEntry : List ℕ → ℕ → ℕ → EntryRead → Type 0
-ReadEntry s at low (Whole node seq age start size) = Stands s at low node seq age start size
-ReadEntry s at low NoEntry = (now n : ℕ) → loadEntries now (n + 1) low (drop at s) ≡ none
+ReadEntry s at low (Whole node seq age start size) = EntryAt s at low node seq age start size
+ReadEntry s at low NoEntry = (clock n : ℕ) → loadEntries clock (n + 1) low (drop at s) ≡ none
 
 -- edition, own identifier and count stand at the front of s; the entries start at place `next`
 pub record Heads (s : List ℕ) (own count next : ℕ) : Type 0 where
   pub some : 1 ≤ count
   pub few : count ≤ mostNodes
   pub within : next ≤ length s
-  pub loads : (now : ℕ) → load now s ≡ orElse (loadEntries now count 0 (drop next s)) none (holdsOwn own)
+  pub loads : (clock : ℕ) → load clock s ≡ orElse (loadEntries clock count 0 (drop next s)) none (holdsOwn own)
 
 abbrev pub ReadHead : List ℕ → HeadRead → Type 0
 ReadHead s (Head own count next) = Heads s own count next
-ReadHead s NoHead = (now : ℕ) → load now s ≡ none
+ReadHead s NoHead = (clock : ℕ) → load clock s ≡ none
 
 -- the snapshot s was judged whole: only if it loads is the table memory written, and then table and memory hold what loads
-pub record LoadedFrom (now : ℕ) (s m : List ℕ) (r : Loaded) (m′ : List ℕ) : Type 0 where
-  pub judged : r .ok ≡ isSome (load now s)
+pub record LoadedFrom (clock : ℕ) (s m : List ℕ) (r : Loaded) (m′ : List ℕ) : Type 0 where
+  pub judged : r .ok ≡ isSome (load clock s)
   pub refused : r .ok ≡ false → m′ ≡ m
   pub kept : r .ok ≡ true → Kept (r .table) m′
-  pub loads : r .ok ≡ true → load now s ≡ some (record { own = r .own; entries = view (r .table) m′ })
+  pub loads : r .ok ≡ true → load clock s ≡ some (record { own = r .own; entries = view (r .table) m′ })
   pub size : length m′ ≡ length m
   pub beyond : drop tableBytes m′ ≡ drop tableBytes m

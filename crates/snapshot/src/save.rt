@@ -12,8 +12,8 @@ ghost use Rattle.base.specs.Memory.{written};
 ghost use Rattle.model.specs.Figures.{tableBytes, snapshotBytes, lastReading, mostAge};
 ghost use Rattle.model.specs.Snapshot.{saveEntry, saved};
 ghost use Rattle.model.specs.Invariant.{EntryFits, TableFits};
-ghost use Rattle.table.specs.View.{dataOf, view, FitRow, Kept};
-ghost use Rattle.snapshot.specs.Answers.{saying, SavedTo};
+ghost use Rattle.table.specs.View.{dataOf, view, FitMeta, Kept, entryWith};
+ghost use Rattle.snapshot.specs.Answers.{SavedTo};
 
 // An age as it is saved: at most 2^32 - 1.
 fn capped(age: u64) -> u64
@@ -25,9 +25,9 @@ fn capped(age: u64) -> u64
     age
 }
 
-// The data of the row e, as a part of the memory.
+// The data of the entry e, as a part of the memory.
 fn bytes_of<'a>(e: Entry, mem: &'a [u8]) -> &'a [u8]
-    requires { ⌜ FitRow e × (tableBytes ≤ length (now mem)) ⌝ }
+    requires { ⌜ FitMeta e × (tableBytes ≤ length (now mem)) ⌝ }
     ensures { λ r. ⌜ now r ≡ dataOf (now (mem .entry)) e ⌝ }
 {
     let a = e.slot * SLOT;
@@ -35,10 +35,10 @@ fn bytes_of<'a>(e: Entry, mem: &'a [u8]) -> &'a [u8]
     &mem[a..b]
 }
 
-// The node of row e, whose data are the bytes, to place `at` of the room; the place after it.
+// The node of entry e, whose data are the bytes, to place `at` of the room; the place after it.
 fn save_entry(e: Entry, bytes: &[u8], clock: u64, room: &mut [u8], at: usize) -> usize
-    requires { ⌜ EntryFits clock (saying e (now bytes)) × ((e .len ≡ length (now bytes)) × ((clock ≤ lastReading) × (at + 1041 ≤ length (now room)))) ⌝ }
-    ensures { λ r. ⌜ (now (room .exit) ≡ written (now (room .entry)) at (saveEntry clock (saying e (now (bytes .entry))))) × (r ≡ at + length (saveEntry clock (saying e (now (bytes .entry))))) ⌝ }
+    requires { ⌜ EntryFits clock (entryWith e (now bytes)) × ((e .len ≡ length (now bytes)) × ((clock ≤ lastReading) × (at + 1041 ≤ length (now room)))) ⌝ }
+    ensures { λ r. ⌜ (now (room .exit) ≡ written (now (room .entry)) at (saveEntry clock (entryWith e (now (bytes .entry))))) × (r ≡ at + length (saveEntry clock (entryWith e (now (bytes .entry))))) ⌝ }
 {
     let a = put_groups(room, at, e.id as u64);
     let b = put_groups(room, a, e.seq as u64);

@@ -46,13 +46,13 @@ module _ (clock : ℕ) (s : State) (m d : List ℕ) (e : d ≡ ownData (stateOf 
 
 -- ---- the model's state step by step
 
-module _ (now : ℕ) (rs : List ℕ) (b : Snapshot) (f : SnapshotFits now b) where
+module _ (clock : ℕ) (rs : List ℕ) (b : Snapshot) (f : SnapshotFits clock b) where
   -- started from the entries as they were saved, and as they are once our own is published again
   abbrev before : ModelState
-  before = undigested (b .own) now rs (b .entries)
+  before = undigested (b .own) clock rs (b .entries)
 
   abbrev after : ModelState
-  after = undigested (b .own) now rs (republished now b)
+  after = undigested (b .own) clock rs (republished clock b)
 
   before-held : isSome (look (before .own) (before .table)) ≡ true
   unfolding undigested
@@ -60,20 +60,20 @@ module _ (now : ℕ) (rs : List ℕ) (b : Snapshot) (f : SnapshotFits now b) whe
 
   before-fine : good dataLimit (ownData before) ≡ true
   unfolding undigested ownEntry
-  before-fine = before-good now rs b f
+  before-fine = before-good clock rs b f
 
   -- the one publishing of the code is the one in the model's table
-  then-after : unlinked now before ≡ after
+  then-after : unlinked clock before ≡ after
   unfolding unlinked undigested publishAs ownEntry republished
   then-after = refl
 
-  after-fits : now ≤ lastReading → length rs ≡ 4 → TableFits (after .own) now (after .table)
+  after-fits : clock ≤ lastReading → length rs ≡ 4 → TableFits (after .own) clock (after .table)
   unfolding undigested resumed started
-  after-fits l r = resumed-valid now rs b f l r .inside .table
+  after-fits l r = resumed-valid clock rs b f l r .inside .table
 
-  then-resumed : digested now after ≡ resumed now rs b
+  then-resumed : digested clock after ≡ resumed clock rs b
   unfolding resumed
-  then-resumed = then-digested (b .own) now rs (republished now b)
+  then-resumed = then-digested (b .own) clock rs (republished clock b)
 
 -- ---- and the code's
 
@@ -81,15 +81,15 @@ module _ (now : ℕ) (rs : List ℕ) (b : Snapshot) (f : SnapshotFits now b) whe
 one-loads : (o : Option Snapshot) (a b : Snapshot) → o ≡ some a → o ≡ some b → a ≡ b
 one-loads o a b p q = cc
 
-module _ (now : ℕ) (bytes rs m : List ℕ) (s₀ : State) (x : Loaded) (m₁ : List ℕ) (g : LoadedFrom now bytes m x m₁) where
+module _ (clock : ℕ) (bytes rs m : List ℕ) (s₀ : State) (x : Loaded) (m₁ : List ℕ) (g : LoadedFrom clock bytes m x m₁) where
   -- a snapshot that does not load changes nothing
-  pub resume-refused : x .ok ≡ false → ResumedFrom now bytes rs s₀ m (record { ok = false; state = s₀ }) m₁
+  pub resume-refused : x .ok ≡ false → ResumedFrom clock bytes rs s₀ m (record { ok = false; state = s₀ }) m₁
   resume-refused n =
       record {
         judged = sym n ∙ g .judged;
         state = λ z. refl;
         memory = λ z. g .refused n;
-        resumes = λ b e. no-way (isSome (load now bytes)) (ap isSome e) (sym (g .judged) ∙ n);
+        resumes = λ b e. no-way (isSome (load clock bytes)) (ap isSome e) (sym (g .judged) ∙ n);
       }
 
   module _ (t : x .ok ≡ true) where
@@ -97,11 +97,11 @@ module _ (now : ℕ) (bytes rs m : List ℕ) (s₀ : State) (x : Loaded) (m₁ :
     taken = record { own = x .own; entries = view (x .table) m₁ }
 
     -- so every number is in range and all data good
-    taken-fits : SnapshotFits now taken
-    taken-fits = load-fits now bytes taken (g .loads t)
+    taken-fits : SnapshotFits clock taken
+    taken-fits = load-fits clock bytes taken (g .loads t)
 
-    module _ (s : State) (w : (k : List ℕ) → Kept (x .table) k → Rep s k × (stateOf s k ≡ undigested (x .own) now rs (view (x .table) k))) where
-      loaded-is : stateOf s m₁ ≡ before now rs taken taken-fits
+    module _ (s : State) (w : (k : List ℕ) → Kept (x .table) k → Rep s k × (stateOf s k ≡ undigested (x .own) clock rs (view (x .table) k))) where
+      loaded-is : stateOf s m₁ ≡ before clock rs taken taken-fits
       loaded-is = w m₁ (g .kept t) .1
 
       -- what publishing once more asks
@@ -109,33 +109,33 @@ module _ (now : ℕ) (bytes rs m : List ℕ) (s₀ : State) (x : Loaded) (m₁ :
       resume-ready = (
         w m₁ (g .kept t) .0,
         (
-          state-held s m₁ (subst (λ (z : ModelState). isSome (look (z .own) (z .table)) ≡ true) (sym loaded-is) (before-held now rs taken taken-fits)),
-          subst (λ (z : ModelState). good dataLimit (ownData z) ≡ true) (sym loaded-is) (before-fine now rs taken taken-fits),
+          state-held s m₁ (subst (λ (z : ModelState). isSome (look (z .own) (z .table)) ≡ true) (sym loaded-is) (before-held clock rs taken taken-fits)),
+          subst (λ (z : ModelState). good dataLimit (ownData z) ≡ true) (sym loaded-is) (before-fine clock rs taken taken-fits),
         ),
       )
 
-      module _ (l : now ≤ lastReading) (four : length rs ≡ 4) (r : State) (m₂ : List ℕ) (u : Moved (unlinked now (stateOf s m₁)) m₁ r m₂) where
-        again-is : stateOf r m₂ ≡ after now rs taken taken-fits
-        again-is = u .is ∙ ap (unlinked now) loaded-is ∙ then-after now rs taken taken-fits
+      module _ (l : clock ≤ lastReading) (four : length rs ≡ 4) (r : State) (m₂ : List ℕ) (u : Moved (unlinked clock (stateOf s m₁)) m₁ r m₂) where
+        again-is : stateOf r m₂ ≡ after clock rs taken taken-fits
+        again-is = u .is ∙ ap (unlinked clock) loaded-is ∙ then-after clock rs taken taken-fits
 
         -- what the digest asks
-        pub resume-readable : Rep r m₂ × (Readable now (r .table) m₂ × Held r m₂)
-        resume-readable = (u .rep, table-readable now r m₂ (u .rep) (after now rs taken taken-fits) again-is (after-fits now rs taken taken-fits l four) l)
+        pub resume-readable : Rep r m₂ × (Readable clock (r .table) m₂ × Held r m₂)
+        resume-readable = (u .rep, table-readable clock r m₂ (u .rep) (after clock rs taken taken-fits) again-is (after-fits clock rs taken taken-fits l four) l)
 
-        resumed-from : (q : State) → Moved (digested now (stateOf r m₂)) m₂ q m₂ → Moved (resumed now rs taken) m q m₂
+        resumed-from : (q : State) → Moved (digested clock (stateOf r m₂)) m₂ q m₂ → Moved (resumed clock rs taken) m q m₂
         resumed-from q d =
             record {
               rep = d .rep;
-              is = d .is ∙ ap (digested now) again-is ∙ then-resumed now rs taken taken-fits;
+              is = d .is ∙ ap (digested clock) again-is ∙ then-resumed clock rs taken taken-fits;
               size = u .size ∙ g .size;
               beyond = u .beyond ∙ g .beyond;
             }
 
-        pub resume-done : (q : State) → Moved (digested now (stateOf r m₂)) m₂ q m₂ → ResumedFrom now bytes rs s₀ m (record { ok = true; state = q }) m₂
+        pub resume-done : (q : State) → Moved (digested clock (stateOf r m₂)) m₂ q m₂ → ResumedFrom clock bytes rs s₀ m (record { ok = true; state = q }) m₂
         resume-done q d =
             record {
               judged = sym t ∙ g .judged;
               state = λ z. no-way true refl z;
               memory = λ z. no-way true refl z;
-              resumes = λ b e. subst (λ (z : Snapshot). Moved (resumed now rs z) m q m₂) (one-loads (load now bytes) taken b (g .loads t) e) (resumed-from q d);
+              resumes = λ b e. subst (λ (z : Snapshot). Moved (resumed clock rs z) m q m₂) (one-loads (load clock bytes) taken b (g .loads t) e) (resumed-from q d);
             }

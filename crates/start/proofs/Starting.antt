@@ -31,61 +31,61 @@ pub none-known : (l : List Peer) → length l ≡ mostPeers → PeersRep (record
 unfolding peersOf
 none-known l e = (record { few = zero-le; list = e }, refl)
 
-pub fresh-four : (now : ℕ) (rs : List ℕ) (a b c d : ModelEndpoint) → length rs ≡ 4 → a ≡ freshEndpoint now (getD rs 0 0) → b ≡ freshEndpoint now (getD rs 1 0)
-    → c ≡ freshEndpoint now (getD rs 2 0) → d ≡ freshEndpoint now (getD rs 3 0) → a ∷ b ∷ c ∷ d ∷ [] ≡ freshEndpoints now rs
-fresh-four now rs a b c d h p q r s =
-    let k : a ∷ b ∷ c ∷ d ∷ [] ≡ freshEndpoints now (getD rs 0 0 ∷ getD rs 1 0 ∷ getD rs 2 0 ∷ getD rs 3 0 ∷ []) = rw (p, q, r, s) in
-    k ∙ ap (freshEndpoints now) (sym (four-of rs 0 0 0 0 h))
+pub fresh-four : (clock : ℕ) (rs : List ℕ) (a b c d : ModelEndpoint) → length rs ≡ 4 → a ≡ freshEndpoint clock (getD rs 0 0) → b ≡ freshEndpoint clock (getD rs 1 0)
+    → c ≡ freshEndpoint clock (getD rs 2 0) → d ≡ freshEndpoint clock (getD rs 3 0) → a ∷ b ∷ c ∷ d ∷ [] ≡ freshEndpoints clock rs
+fresh-four clock rs a b c d h p q r s =
+    let k : a ∷ b ∷ c ∷ d ∷ [] ≡ freshEndpoints clock (getD rs 0 0 ∷ getD rs 1 0 ∷ getD rs 2 0 ∷ getD rs 3 0 ∷ []) = rw (p, q, r, s) in
+    k ∙ ap (freshEndpoints clock) (sym (four-of rs 0 0 0 0 h))
 
 -- ---- the state
 
-module _ (own now : ℕ) (rs : List ℕ) where
+module _ (own clock : ℕ) (rs : List ℕ) where
   abbrev pub startedWith : Table → Peers → List Endpoint → State
-  startedWith t p es = record { own = own; last = now; table = t; peers = p; endpoints = es; digest = replicate 16 0 }
+  startedWith t p es = record { own = own; last = clock; table = t; peers = p; endpoints = es; digest = replicate 16 0 }
 
-  pub with-parts : (t : Table) (p : Peers) (es : List Endpoint) → PeersRep p × (peersOf p ≡ []) → (length es ≡ 4) × (endpointsOf es ≡ freshEndpoints now rs)
-      → (m : List ℕ) → Kept t m → Rep (startedWith t p es) m × (stateOf (startedWith t p es) m ≡ undigested own now rs (view t m))
+  pub with-parts : (t : Table) (p : Peers) (es : List Endpoint) → PeersRep p × (peersOf p ≡ []) → (length es ≡ 4) × (endpointsOf es ≡ freshEndpoints clock rs)
+      → (m : List ℕ) → Kept t m → Rep (startedWith t p es) m × (stateOf (startedWith t p es) m ≡ undigested own clock rs (view t m))
   unfolding stateOf undigested
   with-parts t p es hp he m k = (record { table = k; peers = hp .0; four = he .0; digest = refl }, rw (hp .1, he .1))
 
-  pub then-digested : (t : List Entry) → digested now (undigested own now rs t) ≡ started own now rs t
+  pub then-digested : (t : List Entry) → digested clock (undigested own clock rs t) ≡ started own clock rs t
   unfolding undigested digested started
   then-digested t = refl
 
-module _ (now : ℕ) (s : State) (m : List ℕ) (k : Rep s m) where
-  pub digested-moved : (x : Reached) → Reaching (s .own) now (view (s .table) m) x
-      → Moved (digested now (stateOf s m)) m (record { own = s .own; last = s .last; table = s .table; peers = s .peers; endpoints = s .endpoints; digest = x .digest }) m
+module _ (clock : ℕ) (s : State) (m : List ℕ) (k : Rep s m) where
+  pub digested-moved : (x : Reached) → Reaching (s .own) clock (view (s .table) m) x
+      → Moved (digested clock (stateOf s m)) m (record { own = s .own; last = s .last; table = s .table; peers = s .peers; endpoints = s .endpoints; digest = x .digest }) m
   unfolding stateOf digested
   digested-moved x g =
       record {
-        rep = record { table = k .table; peers = k .peers; four = k .four; digest = rw (g .digest) (digest-length (s .own) now (view (s .table) m)) };
+        rep = record { table = k .table; peers = k .peers; four = k .four; digest = rw (g .digest) (digest-length (s .own) clock (view (s .table) m)) };
         is = rw (g .digest);
         size = refl;
         beyond = refl;
       }
 
   -- a table that fits may be marked
-  pub table-readable : (a : ModelState) → stateOf s m ≡ a → TableFits (a .own) now (a .table) → now ≤ lastReading → Readable now (s .table) m × Held s m
+  pub table-readable : (a : ModelState) → stateOf s m ≡ a → TableFits (a .own) clock (a .table) → clock ≤ lastReading → Readable clock (s .table) m × Held s m
   unfolding stateOf
   table-readable a e f l =
-      let g : TableFits (s .own) now (view (s .table) m) = subst (λ (x : ModelState). TableFits (x .own) now (x .table)) (sym e) f in
-      (fits-readable (s .own) now (s .table) m (k .table) g l, g .held)
+      let g : TableFits (s .own) clock (view (s .table) m) = subst (λ (x : ModelState). TableFits (x .own) clock (x .table)) (sym e) f in
+      (fits-readable (s .own) clock (s .table) m (k .table) g l, g .held)
 
 -- ---- beginning
 
-module _ (own now : ℕ) (rs : List ℕ) (o : own < circle) (l : now ≤ lastReading) (four : length rs ≡ 4) where
-  begun-fits : TableFits own now (entryOf own 0 [] 0 now ∷ [])
+module _ (own clock : ℕ) (rs : List ℕ) (o : own < circle) (l : clock ≤ lastReading) (four : length rs ≡ 4) where
+  begun-fits : TableFits own clock (entryOf own 0 [] 0 clock ∷ [])
   unfolding begun started
-  begun-fits = begun-valid own now rs o l four .inside .table
+  begun-fits = begun-valid own clock rs o l four .inside .table
 
-  module _ (t : Table) (m : List ℕ) (v : view t m ≡ entryOf own 0 [] 0 now ∷ []) (s : State) (h : Rep s m × (stateOf s m ≡ undigested own now rs (view t m))) where
-    alone : stateOf s m ≡ undigested own now rs (entryOf own 0 [] 0 now ∷ [])
-    alone = h .1 ∙ ap (undigested own now rs) v
+  module _ (t : Table) (m : List ℕ) (v : view t m ≡ entryOf own 0 [] 0 clock ∷ []) (s : State) (h : Rep s m × (stateOf s m ≡ undigested own clock rs (view t m))) where
+    alone : stateOf s m ≡ undigested own clock rs (entryOf own 0 [] 0 clock ∷ [])
+    alone = h .1 ∙ ap (undigested own clock rs) v
 
-    pub begun-readable : Rep s m × (Readable now (s .table) m × Held s m)
+    pub begun-readable : Rep s m × (Readable clock (s .table) m × Held s m)
     unfolding undigested
-    begun-readable = (h .0, table-readable now s m (h .0) (undigested own now rs (entryOf own 0 [] 0 now ∷ [])) alone begun-fits l)
+    begun-readable = (h .0, table-readable clock s m (h .0) (undigested own clock rs (entryOf own 0 [] 0 clock ∷ [])) alone begun-fits l)
 
-    pub begun-moved : (r : State) → Moved (digested now (stateOf s m)) m r m → Moved (begun own now rs) m r m
+    pub begun-moved : (r : State) → Moved (digested clock (stateOf s m)) m r m → Moved (begun own clock rs) m r m
     unfolding begun
-    begun-moved r d = moved-to d (ap (digested now) alone ∙ then-digested own now rs (entryOf own 0 [] 0 now ∷ []))
+    begun-moved r d = moved-to d (ap (digested clock) alone ∙ then-digested own clock rs (entryOf own 0 [] 0 clock ∷ []))

@@ -19,25 +19,25 @@ use Rattle.start.specs.declared.resume.Resumed.{Resumed}
 
 -- an endpoint whose interval begins now
 abbrev pub freshEndpoint : ℕ → ℕ → ModelEndpoint
-freshEndpoint now random = record { trickle = fresh now leastInterval random; next = 0 }
+freshEndpoint clock random = record { trickle = fresh clock leastInterval random; next = 0 }
 
 -- the model's started state, but for the digest
 unfoldable pub undigested : ℕ → ℕ → List ℕ → List Entry → ModelState
-undigested own now randoms t =
-    record { own = own; last = now; table = t; peers = []; endpoints = freshEndpoints now randoms; digest = replicate 16 0 }
+undigested own clock randoms t =
+    record { own = own; last = clock; table = t; peers = []; endpoints = freshEndpoints clock randoms; digest = replicate 16 0 }
 
 -- the network digest at the reading
 unfoldable pub digested : ℕ → ModelState → ModelState
-digested now s =
-    record { own = s .own; last = s .last; table = s .table; peers = s .peers; endpoints = s .endpoints; digest = networkDigest (s .own) now (s .table) }
+digested clock s =
+    record { own = s .own; last = s .last; table = s .table; peers = s .peers; endpoints = s .endpoints; digest = networkDigest (s .own) clock (s .table) }
 
 -- our data published without the Peer TLVs
 unfoldable pub unlinked : ℕ → ModelState → ModelState
-unlinked now s = publish now (withoutLinks (ownData s)) s
+unlinked clock s = publish clock (withoutLinks (ownData s)) s
 
 -- the snapshot was judged whole: only if it loads does anything change, and then the state is that of the model
-pub record ResumedFrom (now : ℕ) (bytes randoms : List ℕ) (s : State) (m : List ℕ) (r : Resumed) (m′ : List ℕ) : Type 0 where
-  pub judged : r .ok ≡ isSome (load now bytes)
+pub record ResumedFrom (clock : ℕ) (bytes randoms : List ℕ) (s : State) (m : List ℕ) (r : Resumed) (m′ : List ℕ) : Type 0 where
+  pub judged : r .ok ≡ isSome (load clock bytes)
   pub state : r .ok ≡ false → r .state ≡ s
   pub memory : r .ok ≡ false → m′ ≡ m
-  pub resumes : (b : Snapshot) → load now bytes ≡ some b → Moved (resumed now randoms b) m (r .state) m′
+  pub resumes : (b : Snapshot) → load clock bytes ≡ some b → Moved (resumed clock randoms b) m (r .state) m′

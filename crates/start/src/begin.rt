@@ -56,7 +56,7 @@ fn no_peers() -> Peers
 }
 
 // Our node with a table, its network digest not worked out yet.
-pub fn with_table(own: u32, clock: u64, randoms: [u32; 4], t: Table) -> State
+pub fn undigested(own: u32, clock: u64, randoms: [u32; 4], t: Table) -> State
     ensures { λ r. ⌜ ((m : List ℕ) → Kept t m → Rep r m × (stateOf r m ≡ undigested own clock randoms (view t m))) ⌝ }
 {
     State {
@@ -87,6 +87,6 @@ pub fn begin(own: u32, clock: u64, randoms: [u32; 4], mem: &[u8]) -> State
     ensures { λ r. ⌜ Moved (begun own clock randoms) (now (mem .entry)) r (now (mem .entry)) ⌝ }
 {
     let t = table::begin(own, clock, mem);
-    let s = with_table(own, clock, randoms, t);
+    let s = undigested(own, clock, randoms, t);
     with_digest(s, mem, clock)
 }

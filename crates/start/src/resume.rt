@@ -1,6 +1,6 @@
 // Resuming from a snapshot.
+use crate::begin::undigested;
 use crate::begin::with_digest;
-use crate::begin::with_table;
 use crate::links::links_in;
 use node::State;
 use node::publish::advanced;
@@ -46,7 +46,7 @@ pub fn resume(s: State, bytes: &[u8], mem: &mut [u8], clock: u64, randoms: [u32;
             state: s,
         };
     }
-    let begun = with_table(loaded.own, clock, randoms, loaded.table);
+    let begun = undigested(loaded.own, clock, randoms, loaded.table);
     let published = republish(begun, mem, clock);
     Resumed {
         ok: true,

@@ -1,2 +1,2 @@
 -- The laws of the table.
-pub mod Rows
+pub mod Tables

@@ -7,32 +7,37 @@ use lib.ListN.{length, getD, take, drop, set}
 use Rattle.base.specs.Lists.{All, keepBy}
 use Rattle.base.specs.Memory.{written, Outside}
 use Rattle.base.specs.Sorted.{Ascending}
+use Rattle.wire.specs.Order.{good}
 use Rattle.sha256.specs.Sha256.{hash16}
 use Rattle.model.specs.Figures.{mostNodes, dataLimit, tableBytes}
 use Rattle.model.specs.Table.{Entry, entryOf, idOf, put}
 use Rattle.table.specs.declared.Table.{Table}
-use Rattle.table.specs.declared.Entry.{Entry as Row}
+use Rattle.table.specs.declared.Entry.{Entry as Meta}
 use Rattle.table.specs.declared.Found.{Found}
 use Rattle.table.specs.declared.Found.the-variants.{At, Missing}
 
-abbrev pub blank : Row
+abbrev pub blank : Meta
 blank = record { id = 0; seq = 0; age = 0; since = 0; len = 0; slot = 0; hash = [] }
 
-abbrev pub rowId : Row → ℕ
-rowId e = e .id
+abbrev pub metaId : Meta → ℕ
+metaId e = e .id
 
--- the rows that count
-abbrev pub live : Table → List Row
+-- the entries that count
+abbrev pub live : Table → List Meta
 live t = take (t .count) (t .entries)
 
-abbrev pub rowAt : Table → ℕ → Row
-rowAt t i = getD (t .entries) i blank
+abbrev pub metaAt : Table → ℕ → Meta
+metaAt t i = getD (t .entries) i blank
 
-abbrev pub dataOf : List ℕ → Row → List ℕ
+abbrev pub dataOf : List ℕ → Meta → List ℕ
 dataOf m e = take (e .len) (drop (e .slot * dataLimit) m)
 
-abbrev pub seen : List ℕ → Row → Entry
-seen m e = entryOf (e .id) (e .seq) (dataOf m e) (e .age) (e .since)
+-- the entry that e stands for, where its data are the bytes d
+abbrev pub entryWith : Meta → List ℕ → Entry
+entryWith e d = entryOf (e .id) (e .seq) d (e .age) (e .since)
+
+abbrev pub seen : List ℕ → Meta → Entry
+seen m e = entryWith e (dataOf m e)
 
 unfoldable pub view : Table → List ℕ → List Entry
 view t m = map (seen m) (live t)
@@ -43,55 +48,59 @@ view t m = map (seen m) (live t)
 abbrev pub OnlySlot : ℕ → List ℕ → List ℕ → Type 0
 OnlySlot s m m′ = Outside (s * dataLimit) dataLimit m m′
 
--- no row has slot s
-abbrev pub Free : ℕ → List Row → Type 0
+-- no entry has slot s
+abbrev pub Free : ℕ → List Meta → Type 0
 Free s l = All (λ e. ¬ (e .slot ≡ s)) l
 
-abbrev pub Apart : List Row → Type 0
+abbrev pub Apart : List Meta → Type 0
 Apart [] = Unit {0}
 Apart (e ∷ l) = Free (e .slot) l × Apart l
 
-abbrev pub FitRow : Row → Type 0
-FitRow e = (e .slot < mostNodes) × (e .len ≤ dataLimit)
+abbrev pub FitMeta : Meta → Type 0
+FitMeta e = (e .slot < mostNodes) × (e .len ≤ dataLimit)
 
-abbrev pub Fit : List Row → Type 0
-Fit l = All FitRow l
+abbrev pub Fit : List Meta → Type 0
+Fit l = All FitMeta l
 
-pub record Rows (t : Table) : Type 0 where
+pub record Arranged (t : Table) : Type 0 where
   pub most : t .count ≤ mostNodes
   pub wide : length (t .entries) ≡ mostNodes
-  pub ascending : Ascending rowId (live t)
+  pub ascending : Ascending metaId (live t)
   pub fit : Fit (live t)
   pub apart : Apart (live t)
 
--- the digest kept with each row is that of its data
-abbrev pub Hashed : List ℕ → List Row → Type 0
+-- the digest kept with each entry is that of its data
+abbrev pub Hashed : List ℕ → List Meta → Type 0
 Hashed m l = All (λ e. e .hash ≡ hash16 (dataOf m e)) l
 
 pub record Kept (t : Table) (m : List ℕ) : Type 0 where
-  pub rows : Rows t
+  pub arranged : Arranged t
   pub room : tableBytes ≤ length m
   pub hashed : Hashed m (live t)
 
+-- every node's data are good
+abbrev pub AllGood : List Entry → Type 0
+AllGood t = All (λ e. good dataLimit (e .says .nodeData) ≡ true) t
+
 -- ---- found
 
--- the row at place i
-pub record Read (t : Table) (i : ℕ) (r : Row) : Type 0 where
-  pub same : r ≡ rowAt t i
-  pub long : r .len ≡ rowAt t i .len
+-- the entry at place i
+pub record Read (t : Table) (i : ℕ) (r : Meta) : Type 0 where
+  pub same : r ≡ metaAt t i
+  pub long : r .len ≡ metaAt t i .len
   pub low : r .slot < mostNodes
   pub short : r .len ≤ dataLimit
 
 -- the node id stands at place i
 pub record Stands (t : Table) (id i : ℕ) : Type 0 where
   pub at : i < t .count
-  pub named : rowAt t i .id ≡ id
+  pub named : metaAt t i .id ≡ id
 
 -- it stands nowhere, and would stand at place i
 pub record Gap (t : Table) (id i : ℕ) : Type 0 where
   pub at : i ≤ t .count
-  pub below : (j : ℕ) → j < i → rowAt t j .id < id
-  pub above : i < t .count → id < rowAt t i .id
+  pub below : (j : ℕ) → j < i → metaAt t j .id < id
+  pub above : i < t .count → id < metaAt t i .id
 
 abbrev pub Finding : Table → ℕ → Found → Type 0
 Finding t id (At i) = Stands t id i
@@ -104,31 +113,31 @@ pub record Stored (e : Entry) (t : Table) (m : List ℕ) (i : ℕ) (r : Table) (
   pub kept : Kept r m′
   pub viewed : view r m′ ≡ put e (view t m)
   pub stands : Stands r (idOf e) i
-  pub memory : m′ ≡ written m (rowAt r i .slot * dataLimit) (e .says .nodeData)
+  pub memory : m′ ≡ written m (metaAt r i .slot * dataLimit) (e .says .nodeData)
   pub beyond : drop tableBytes m′ ≡ drop tableBytes m
 
-abbrev pub withEntries : Table → List Row → Table
+abbrev pub withEntries : Table → List Meta → Table
 withEntries t l = record { count = t .count; entries = l }
 
-abbrev pub withRow : Table → ℕ → Row → Table
-withRow t i e = record { count = t .count; entries = set (t .entries) i e }
+abbrev pub withMeta : Table → ℕ → Meta → Table
+withMeta t i e = record { count = t .count; entries = set (t .entries) i e }
 
-abbrev pub inserted : Table → ℕ → Row → Table
+abbrev pub inserted : Table → ℕ → Meta → Table
 inserted t i e =
     record { count = t .count + 1; entries = take (t .count + 1) (take i (t .entries) ++ (e ∷ drop i (t .entries))) ++ drop (t .count + 1) (t .entries) }
 
 -- only number, age and reading of the node at place i are new
 pub record Renumbered (id seq age since : ℕ) (t : Table) (i : ℕ) (r : Table) : Type 0 where
-  pub rows : Rows r
+  pub arranged : Arranged r
   pub kept : (m : List ℕ) → Kept t m → Kept r m
-  pub viewed : (m : List ℕ) → view r m ≡ put (entryOf id seq (dataOf m (rowAt t i)) age since) (view t m)
+  pub viewed : (m : List ℕ) → view r m ≡ put (entryOf id seq (dataOf m (metaAt t i)) age since) (view t m)
 
--- a row has slot s, or none has
+-- an entry has slot s, or none has
 abbrev pub SlotUsed : Table → ℕ → Bool → Type 0
-SlotUsed t s true = (k : ℕ) × ((k < t .count) × (rowAt t k .slot ≡ s))
-SlotUsed t s false = (k : ℕ) → k < t .count → ¬ (rowAt t k .slot ≡ s)
+SlotUsed t s true = (k : ℕ) × ((k < t .count) × (metaAt t k .slot ≡ s))
+SlotUsed t s false = (k : ℕ) → k < t .count → ¬ (metaAt t k .slot ≡ s)
 
 pub record Purged (marks : List Bool) (t r : Table) : Type 0 where
-  pub rows : Rows r
+  pub arranged : Arranged r
   pub kept : (m : List ℕ) → Kept t m → Kept r m
   pub viewed : (m : List ℕ) → view r m ≡ keepBy marks (view t m)

@@ -12,7 +12,7 @@ ghost use Rattle.base.specs.Memory.{spliced, cut};
 ghost use Rattle.model.specs.Figures.{dataLimit, tableBytes, mostAge, lastReading};
 ghost use Rattle.model.specs.Table.{entryOf};
 ghost use Rattle.sha256.specs.Sha256.{hash16};
-ghost use Rattle.table.specs.View.{view, live, rowAt, dataOf, Free, Rows, Kept, Stands, Gap, Finding, Read, Stored, Renumbered, Purged, SlotUsed, withRow, inserted};
+ghost use Rattle.table.specs.View.{view, live, metaAt, dataOf, Free, Arranged, Kept, Stands, Gap, Finding, Read, Stored, Renumbered, Purged, SlotUsed, withMeta, inserted};
 
 // Bytes of a slot: the most that one node publishes.
 pub const SLOT: usize = 1024;
@@ -46,7 +46,7 @@ pub enum Found {
 
 // The place of a node.
 pub fn find(t: Table, id: u32) -> Found
-    requires { ⌜ Rows t ⌝ }
+    requires { ⌜ Arranged t ⌝ }
     ensures { λ r. ⌜ Finding t id r ⌝ }
 {
     let count = t.count;
@@ -65,8 +65,8 @@ pub fn find(t: Table, id: u32) -> Found
 }
 
 // The entry at place i.
-pub fn row_at(t: Table, i: usize) -> Entry
-    requires { ⌜ Rows t × (i < t .count) ⌝ }
+pub fn meta_at(t: Table, i: usize) -> Entry
+    requires { ⌜ Arranged t × (i < t .count) ⌝ }
     ensures { λ r. ⌜ Read t i r ⌝ }
 {
     t.entries[i]
@@ -81,9 +81,9 @@ pub fn age_at(e: Entry, clock: u64) -> u64
 }
 
 // The table with e at place i.
-fn with_row(t: Table, i: usize, e: Entry) -> Table
+fn with_meta(t: Table, i: usize, e: Entry) -> Table
     requires { ⌜ i < 32 ⌝ }
-    ensures { λ r. ⌜ r ≡ withRow t i e ⌝ }
+    ensures { λ r. ⌜ r ≡ withMeta t i e ⌝ }
 {
     let mut n = t;
     n.entries[i] = e;
@@ -91,7 +91,7 @@ fn with_row(t: Table, i: usize, e: Entry) -> Table
 }
 
 // The entries from place i on move up by one, and e goes in there.
-fn insert_row(t: Table, i: usize, e: Entry) -> Table
+fn insert_meta(t: Table, i: usize, e: Entry) -> Table
     requires { ⌜ (t .count < 32) × (i ≤ t .count) ⌝ }
     ensures { λ r. ⌜ r ≡ inserted t i e ⌝ }
 {
@@ -114,7 +114,7 @@ fn insert_row(t: Table, i: usize, e: Entry) -> Table
 
 // Some node's data stands in slot s.
 fn slot_used(t: Table, s: usize) -> bool
-    requires { ⌜ Rows t ⌝ }
+    requires { ⌜ Arranged t ⌝ }
     ensures { λ r. ⌜ SlotUsed t s r ⌝ }
 {
     let count = t.count;
@@ -131,7 +131,7 @@ fn slot_used(t: Table, s: usize) -> bool
 
 // A slot that no node uses: there is one while fewer than 32 are held.
 fn free_slot(t: Table) -> usize
-    requires { ⌜ Rows t × (t .count < 32) ⌝ }
+    requires { ⌜ Arranged t × (t .count < 32) ⌝ }
     ensures { λ r. ⌜ (r < 32) × Free r (live t) ⌝ }
 {
     let mut s = 0;
@@ -150,9 +150,9 @@ fn free_slot(t: Table) -> usize
 // The data of the node at place i, as a part of the memory.
 pub fn data_of<'a>(t: Table, mem: &'a [u8], i: usize) -> &'a [u8]
     requires { ⌜ Kept t (now mem) × (i < t .count) ⌝ }
-    ensures { λ r. ⌜ (now r ≡ dataOf (now (mem .entry)) (rowAt t i)) × ((r .ptr .0 ≡ mem .entry .ptr .0) × (r .ptr .1 ≡ rowAt t i .slot * dataLimit + mem .entry .ptr .1)) ⌝ }
+    ensures { λ r. ⌜ (now r ≡ dataOf (now (mem .entry)) (metaAt t i)) × ((r .ptr .0 ≡ mem .entry .ptr .0) × (r .ptr .1 ≡ metaAt t i .slot * dataLimit + mem .entry .ptr .1)) ⌝ }
 {
-    let e = row_at(t, i);
+    let e = meta_at(t, i);
     let a = e.slot * SLOT;
     let b = a + e.len;
     &mem[a..b]
@@ -173,12 +173,12 @@ pub fn replace(
     requires { ⌜ Kept t (now mem) × (Stands t id i × ((length (now bytes) ≤ dataLimit) × (hash ≡ hash16 (now bytes)))) ⌝ }
     ensures { λ r. ⌜ Stored (entryOf id seq (now (bytes .entry)) age clock) t (now (mem .entry)) i r (now (mem .exit)) ⌝ }
 {
-    let old = row_at(t, i);
+    let old = meta_at(t, i);
     let slot = old.slot;
     let at = slot * SLOT;
     store(mem, at, bytes);
     let len = bytes.len();
-    with_row(
+    with_meta(
         t,
         i,
         Entry {
@@ -212,7 +212,7 @@ pub fn insert(
     let at = slot * SLOT;
     store(mem, at, bytes);
     let len = bytes.len();
-    insert_row(
+    insert_meta(
         t,
         i,
         Entry {
@@ -229,14 +229,14 @@ pub fn insert(
 
 // New number, age and reading for the node at place i; its data stay.
 pub fn renumber(t: Table, i: usize, id: u32, seq: u32, age: u64, clock: u64) -> Table
-    requires { ⌜ Rows t × Stands t id i ⌝ }
+    requires { ⌜ Arranged t × Stands t id i ⌝ }
     ensures { λ r. ⌜ Renumbered id seq age clock t i r ⌝ }
 {
-    let old = row_at(t, i);
+    let old = meta_at(t, i);
     let len = old.len;
     let slot = old.slot;
     let hash = old.hash;
-    with_row(
+    with_meta(
         t,
         i,
         Entry {
@@ -264,7 +264,7 @@ fn counted(j: usize, kept: bool) -> usize
 
 // Only the nodes whose mark is set stay.
 pub fn purge(t: Table, marks: [bool; 32]) -> Table
-    requires { ⌜ Rows t ⌝ }
+    requires { ⌜ Arranged t ⌝ }
     ensures { λ r. ⌜ Purged marks t r ⌝ }
 {
     let count = t.count;
@@ -295,10 +295,10 @@ pub fn insert_tlv(
     p: usize,
     bytes: &[u8],
 ) -> Table
-    requires { ⌜ Kept t (now mem) × (Stands t id i × ((p ≤ rowAt t i .len) × (rowAt t i .len + length (now bytes) ≤ dataLimit))) ⌝ }
-    ensures { λ r. ⌜ Stored (entryOf id seq (spliced (dataOf (now (mem .entry)) (rowAt t i)) p (now (bytes .entry))) 0 clock) t (now (mem .entry)) i r (now (mem .exit)) ⌝ }
+    requires { ⌜ Kept t (now mem) × (Stands t id i × ((p ≤ metaAt t i .len) × (metaAt t i .len + length (now bytes) ≤ dataLimit))) ⌝ }
+    ensures { λ r. ⌜ Stored (entryOf id seq (spliced (dataOf (now (mem .entry)) (metaAt t i)) p (now (bytes .entry))) 0 clock) t (now (mem .entry)) i r (now (mem .exit)) ⌝ }
 {
-    let old = row_at(t, i);
+    let old = meta_at(t, i);
     let slot = old.slot;
     let at = slot * SLOT;
     let had = old.len;
@@ -306,7 +306,7 @@ pub fn insert_tlv(
     let len = had + bytes.len();
     let end = at + len;
     let hash = hash16(&mem[at..end]);
-    with_row(
+    with_meta(
         t,
         i,
         Entry {
@@ -332,10 +332,10 @@ pub fn remove_tlv(
     p: usize,
     n: usize,
 ) -> Table
-    requires { ⌜ Kept t (now mem) × (Stands t id i × (p + n ≤ rowAt t i .len)) ⌝ }
-    ensures { λ r. ⌜ Stored (entryOf id seq (cut (dataOf (now (mem .entry)) (rowAt t i)) p n) 0 clock) t (now (mem .entry)) i r (now (mem .exit)) ⌝ }
+    requires { ⌜ Kept t (now mem) × (Stands t id i × (p + n ≤ metaAt t i .len)) ⌝ }
+    ensures { λ r. ⌜ Stored (entryOf id seq (cut (dataOf (now (mem .entry)) (metaAt t i)) p n) 0 clock) t (now (mem .entry)) i r (now (mem .exit)) ⌝ }
 {
-    let old = row_at(t, i);
+    let old = meta_at(t, i);
     let slot = old.slot;
     let at = slot * SLOT;
     let had = old.len;
@@ -343,7 +343,7 @@ pub fn remove_tlv(
     let len = had - n;
     let end = at + len;
     let hash = hash16(&mem[at..end]);
-    with_row(
+    with_meta(
         t,
         i,
         Entry {

@@ -12,8 +12,8 @@ use Rattle.model.specs.Invariant.{TrickleFits, intervals}
 use Rattle.trickle.specs.declared.Trickle.{Trickle}
 use Rattle.trickle.specs.View.{trickleOf, Small}
 
-pub due-open : (t : ModelTrickle) (now : ℕ) → t .spent ≡ false → pointDue now t ≡ leb (t .start + t .point) now
-due-open t now h = rw h
+pub due-open : (t : ModelTrickle) (clock : ℕ) → t .spent ≡ false → pointDue clock t ≡ leb (t .start + t .point) clock
+due-open t clock h = rw h
 
 module _ (t : ModelTrickle) where
   counted : ℕ → ModelTrickle

@@ -50,19 +50,19 @@ module _ (own endpoint : ℕ) (digest : List ℕ) (h : length digest ≡ 16) whe
 
 -- ---- silent peers gone, the digest compared
 
-module _ (now i : ℕ) (s : ModelState) (mid : Midway now s) (m : List ℕ) (a : State) (m′ : List ℕ) (o : Moved (dropSilent now i s) m a m′) where
-  dropped-midway : Midway now (stateOf a m′)
-  dropped-midway = subst (Midway now) (sym (o .is)) (silent-kept now i s mid)
+module _ (clock i : ℕ) (s : ModelState) (mid : Midway clock s) (m : List ℕ) (a : State) (m′ : List ℕ) (o : Moved (dropSilent clock i s) m a m′) where
+  dropped-midway : Midway clock (stateOf a m′)
+  dropped-midway = subst (Midway clock) (sym (o .is)) (silent-kept clock i s mid)
 
-  pub dropped-readable : now ≤ lastReading → Readable now (a .table) m′ × Held a m′
+  pub dropped-readable : clock ≤ lastReading → Readable clock (a .table) m′ × Held a m′
   unfolding stateOf
-  dropped-readable l = (fits-readable (a .own) now (a .table) m′ (o .rep .table) (dropped-midway .table) l, held-midway now a m′ dropped-midway)
+  dropped-readable l = (fits-readable (a .own) clock (a .table) m′ (o .rep .table) (dropped-midway .table) l, held-midway clock a m′ dropped-midway)
 
-  pub dropped-cleared : (rs d : List ℕ) (r : State) → d ≡ networkDigest (a .own) now (view (a .table) m′) → Settled now rs d a r → Cleared now i rs s m r m′
+  pub dropped-cleared : (rs d : List ℕ) (r : State) → d ≡ networkDigest (a .own) clock (view (a .table) m′) → Settled clock rs d a r → Cleared clock i rs s m r m′
   dropped-cleared rs d r e h =
       record {
-        moved = moved-then o (settle now rs) (settled-moved now rs d a r m′ h (o .rep) e);
-        midway = settle-midway now rs (dropSilent now i s) (silent-kept now i s mid);
+        moved = moved-then o (settle clock rs) (settled-moved clock rs d a r m′ h (o .rep) e);
+        midway = settle-midway clock rs (dropSilent clock i s) (silent-kept clock i s mid);
       }
 
 -- ---- the event
@@ -70,24 +70,24 @@ module _ (now i : ℕ) (s : ModelState) (mid : Midway now s) (m : List ℕ) (a :
 abbrev sent : ModelState → List ℕ → Sent
 sent s d = record { number = 0; state = s; bytes = d }
 
-module _ (now i : ℕ) (rs : List ℕ) (s : State) (m : List ℕ) (b : State) (m′ : List ℕ) (o : Cleared now i rs (stateOf s m) m b m′)
+module _ (clock i : ℕ) (rs : List ℕ) (s : State) (m : List ℕ) (b : State) (m′ : List ℕ) (o : Cleared clock i rs (stateOf s m) m b m′)
     (e : Endpoint) (q : endpointOf e ≡ endpointAt i (stateOf b m′)) where
   abbrev after : ModelState
-  after = settle now rs (dropSilent now i (stateOf s m))
+  after = settle clock rs (dropSilent clock i (stateOf s m))
 
   endpoint-is : endpointOf e ≡ endpointAt i after
   endpoint-is = q ∙ ap (endpointAt i) (o .moved .is)
 
-  pub trickle-small : 1 ≤ i → i ≤ 4 → now ≤ lastReading → Small (e .trickle)
+  pub trickle-small : 1 ≤ i → i ≤ 4 → clock ≤ lastReading → Small (e .trickle)
   trickle-small low high l =
-      fits-small now (e .trickle) l (subst (EndpointFits now) (sym endpoint-is) (endpoint-fits i low high after (o .midway)) .trickle)
+      fits-small clock (e .trickle) l (subst (EndpointFits clock) (sym endpoint-is) (endpoint-fits i low high after (o .midway)) .trickle)
 
-  module _ (v : Event) (k : ℕ) (n : pred i ≡ k) (w : eventOf v ≡ event now (getD rs k 0) (trickleOf (e .trickle)))
+  module _ (v : Event) (k : ℕ) (n : pred i ≡ k) (w : eventOf v ≡ event clock (getD rs k 0) (trickleOf (e .trickle)))
       (r : State) (f : Rep r m′) (u : stateOf r m′ ≡ withEndpoint i (endpointOf (record { trickle = v .next; next = e .next })) (stateOf b m′)) where
-    event-is : event now (getD rs (pred i) 0) (endpointAt i after .trickle) ≡ eventOf v
+    event-is : event clock (getD rs (pred i) 0) (endpointAt i after .trickle) ≡ eventOf v
     event-is =
-        ap (λ (j : ℕ). event now (getD rs j 0) (endpointAt i after .trickle)) n
-        ∙ ap (λ (x : ModelEndpoint). event now (getD rs k 0) (x .trickle)) (sym endpoint-is)
+        ap (λ (j : ℕ). event clock (getD rs j 0) (endpointAt i after .trickle)) n
+        ∙ ap (λ (x : ModelEndpoint). event clock (getD rs k 0) (x .trickle)) (sym endpoint-is)
         ∙ sym w
 
     state-is : stateOf r m′ ≡ withEndpoint i (withTrickle (trickleOf (v .next)) (endpointAt i after)) after
@@ -103,16 +103,16 @@ module _ (now i : ℕ) (rs : List ℕ) (s : State) (m : List ℕ) (b : State) (m
         let d : r .digest ≡ after .digest = sym (state-digest r m′) ∙ ap (λ (x : ModelState). x .digest) state-is in
         rw (a, d)
 
-    answer-is : (d : List ℕ) → d ≡ cond (v .sends) (announcement i after) [] → sent (stateOf r m′) d ≡ ticked now i rs (stateOf s m)
+    answer-is : (d : List ℕ) → d ≡ cond (v .sends) (announcement i after) [] → sent (stateOf r m′) d ≡ ticked clock i rs (stateOf s m)
     answer-is d p =
         ap (λ (x : ModelState). sent x d) state-is
         ∙ ap (sent (withEndpoint i (withTrickle (trickleOf (v .next)) (endpointAt i after)) after)) p
         ∙ ap (withEvent i after) (sym event-is)
-        ∙ sym (ticked-is now i (stateOf s m) rs)
+        ∙ sym (ticked-is clock i (stateOf s m) rs)
 
     module _ (room : List ℕ) where
       -- nothing is sent
-      pub quiet-tick : v .sends ≡ false → TickedFrom s m room now i rs (record { state = r; length = 0 }) m′ room
+      pub quiet-tick : v .sends ≡ false → TickedFrom s m room clock i rs (record { state = r; length = 0 }) m′ room
       quiet-tick h =
           record {
             rep = f;
@@ -125,7 +125,7 @@ module _ (now i : ℕ) (rs : List ℕ) (s : State) (m : List ℕ) (b : State) (m
           }
 
       pub sent-tick : v .sends ≡ true → mostBytes ≤ length room → (room′ : List ℕ) → room′ ≡ written room 0 (endpointTlv (r .own) i ++ networkTlv (r .digest))
-          → TickedFrom s m room now i rs (record { state = r; length = 32 }) m′ room′
+          → TickedFrom s m room clock i rs (record { state = r; length = 32 }) m′ room′
       sent-tick h l room′ p =
           let d : List ℕ = endpointTlv (r .own) i ++ networkTlv (r .digest) in
           let z : length (endpointTlv (r .own) i ++ networkTlv (r .digest)) ≡ 32 = announced-length (r .own) i (r .digest) (f .digest) in

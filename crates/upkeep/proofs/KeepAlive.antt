@@ -20,11 +20,10 @@ use Rattle.model.specs.Figures.{usualInterval, dataLimit}
 use Rattle.model.specs.Table.{Entry}
 use Rattle.model.specs.State.{Peer as ModelPeer}
 use Rattle.model.specs.Tick.{isKeepAlive, intervalIn, intervalOf, silentFor, goes}
-use Rattle.table.specs.View.{dataOf, rowAt, view, Kept, Stands, Gap}
+use Rattle.table.specs.View.{dataOf, metaAt, view, Kept, Stands, Gap, AllGood}
 use Rattle.table.specs.declared.Table.{Table}
-use Rattle.table.proofs.Rows.{look-stands, look-gap, view-each}
+use Rattle.table.proofs.Tables.{look-stands, look-gap, view-each}
 use Rattle.reach.specs.Marks.{tlvOf}
-use Rattle.upkeep.specs.Ticked.{AllGood}
 
 -- ---- one TLV
 
@@ -71,18 +70,18 @@ module _ (s : List ℕ) (endpoint at : ℕ) where
 
 module _ (t : Table) (m : List ℕ) (k : Kept t m) (i : ℕ) where
   -- the data of a node that stands in the table are a row
-  pub stands-row : (id : ℕ) → AllGood (view t m) → Stands t id i → isRow (dataOf m (rowAt t i)) ≡ true
-  stands-row id g s =
-      good-row dataLimit (dataOf m (rowAt t i)) (view-each t (k .rows) (λ e. good dataLimit (e .says .nodeData) ≡ true) m i g (s .at))
+  pub stands-meta : (id : ℕ) → AllGood (view t m) → Stands t id i → isRow (dataOf m (metaAt t i)) ≡ true
+  stands-meta id g s =
+      good-row dataLimit (dataOf m (metaAt t i)) (view-each t (k .arranged) (λ e. good dataLimit (e .says .nodeData) ≡ true) m i g (s .at))
 
   module _ (p : ModelPeer) where
-    pub interval-found : Stands t (p .node) i → intervalOf (view t m) p ≡ intervalIn (dataOf m (rowAt t i)) (p .theirs)
+    pub interval-found : Stands t (p .node) i → intervalOf (view t m) p ≡ intervalIn (dataOf m (metaAt t i)) (p .theirs)
     unfolding intervalOf
-    interval-found s = rw (look-stands t (k .rows) (p .node) i m s)
+    interval-found s = rw (look-stands t (k .arranged) (p .node) i m s)
 
     pub interval-missing : Gap t (p .node) i → intervalOf (view t m) p ≡ usualInterval
     unfolding intervalOf
-    interval-missing g = rw (look-gap t (k .rows) (p .node) i m g)
+    interval-missing g = rw (look-gap t (k .arranged) (p .node) i m g)
 
 -- ---- silence
 
@@ -93,11 +92,11 @@ silent-by interval silence =
     (λ e. let l : 21 * interval ≤ 10 * silence = leb-true (21 * interval) (10 * silence) e in rw e (le-leb ((21 * interval + 9) / 10) silence (omega arith)))
     (λ e. let l : 10 * silence < 21 * interval = leb-false (21 * interval) (10 * silence) e in rw e (lt-leb ((21 * interval + 9) / 10) silence (omega arith)))
 
-module _ (now endpoint : ℕ) (t : List Entry) (p : ModelPeer) where
-  pub goes-other : ¬ (p .ours ≡ endpoint) → goes now endpoint t p ≡ false
+module _ (clock endpoint : ℕ) (t : List Entry) (p : ModelPeer) where
+  pub goes-other : ¬ (p .ours ≡ endpoint) → goes clock endpoint t p ≡ false
   unfolding goes
   goes-other n = rw (ne-eqb (p .ours) endpoint n)
 
-  pub goes-here : p .ours ≡ endpoint → goes now endpoint t p ≡ silentFor (intervalOf t p) (now - p .contact)
+  pub goes-here : p .ours ≡ endpoint → goes clock endpoint t p ≡ silentFor (intervalOf t p) (clock - p .contact)
   unfolding goes
   goes-here e = rw (eq-eqb (p .ours) endpoint e)

@@ -19,8 +19,8 @@ use Rattle.model.specs.Tick.{goes, someOf}
 use Rattle.model.specs.Invariant.{EntryFits, PeerFits, Midway}
 use Rattle.model.proofs.Cases.{gone, stay}
 use Rattle.model.proofs.KeptParts.{midway-own}
-use Rattle.table.specs.View.{seen, view, Read, Stands}
-use Rattle.table.specs.declared.Entry.{Entry as Row}
+use Rattle.table.specs.View.{seen, view, Read, Stands, AllGood}
+use Rattle.table.specs.declared.Entry.{Entry as Meta}
 use Rattle.base.proofs.Marks.{not-at, none-set, keep-by-nil, keep-by-in, keep-by-out, keep-by-map, keep-by-places, any-places, Filled, fill-start, fill-set}
 use Rattle.node.specs.View.{peerOf, peersOf, stateOf, PeersRep, Rep, Held}
 use Rattle.node.specs.declared.State.{State}
@@ -29,7 +29,7 @@ use Rattle.node.specs.declared.peers.Peers.{Peers}
 use Rattle.node.proofs.Contacts.{peers-length, peers-at}
 use Rattle.node.proofs.Parts.{state-held}
 use Rattle.node.proofs.Own.{own-entry}
-use Rattle.upkeep.specs.Ticked.{AllGood, Lent, Scanned, Going}
+use Rattle.upkeep.specs.Ticked.{Lent, Scanned, Going}
 
 abbrev pub noPeer : ModelPeer
 noPeer = record { node = 0; theirs = 0; ours = 0; contact = 0 }
@@ -56,17 +56,17 @@ module _ (clock : ℕ) (s : State) (m : List ℕ) (mid : Midway clock (stateOf s
 
 -- ---- our own age
 
-module _ (clock : ℕ) (s : State) (m : List ℕ) (i : ℕ) (k : Rep s m) (h : Stands (s .table) (s .own) i) (e : Row) (r : Read (s .table) i e) where
+module _ (clock : ℕ) (s : State) (m : List ℕ) (i : ℕ) (k : Rep s m) (h : Stands (s .table) (s .own) i) (e : Meta) (r : Read (s .table) i e) where
   row-is : ownEntry (stateOf s m) ≡ seen m e
   row-is = own-entry s m i k h ∙ ap (seen m) (sym (r .same))
 
-  pub row-fits : Midway clock (stateOf s m) → (e .since ≤ clock) × (e .age ≤ mostAge)
-  row-fits mid =
+  pub meta-fits : Midway clock (stateOf s m) → (e .since ≤ clock) × (e .age ≤ mostAge)
+  meta-fits mid =
       let f : EntryFits clock (seen m e) = subst (EntryFits clock) row-is (midway-own (stateOf s m) mid) in
       (f .since, f .age)
 
-  pub row-age : e .age + (clock - e .since) ≡ ageAt clock (ownEntry (stateOf s m))
-  row-age = ap (ageAt clock) (sym row-is)
+  pub meta-age : e .age + (clock - e .since) ≡ ageAt clock (ownEntry (stateOf s m))
+  meta-age = ap (ageAt clock) (sym row-is)
 
 -- ---- a mark for each peer that goes
 
@@ -75,21 +75,21 @@ nobody = record { node = 0; theirs = 0; ours = 0; contact = 0 }
 
 -- the marks of the peers before place i are theirs by now, and no other is set
 abbrev pub Marked : ℕ → ℕ → List Entry → List Peer → ℕ → List Bool → Type 0
-Marked now endpoint t l i marks = (length marks ≡ mostPeers) × Filled (λ k. goes now endpoint t (peerOf (getD l k nobody))) (λ k. false) i marks
+Marked clock endpoint t l i marks = (length marks ≡ mostPeers) × Filled (λ k. goes clock endpoint t (peerOf (getD l k nobody))) (λ k. false) i marks
 
-module _ (now endpoint : ℕ) (t : List Entry) (l : List Peer) where
-  pub mark-none : Marked now endpoint t l 0 (replicate 16 false)
+module _ (clock endpoint : ℕ) (t : List Entry) (l : List Peer) where
+  pub mark-none : Marked clock endpoint t l 0 (replicate 16 false)
   mark-none = (refl, fill-start _ _ _ (none-set 16))
 
-  pub mark-next : (i : ℕ) (marks : List Bool) (b : Bool) → Marked now endpoint t l i marks → i < mostPeers → b ≡ goes now endpoint t (peerOf (getD l i nobody)) → Marked now endpoint t l (i + 1) (set marks i b)
+  pub mark-next : (i : ℕ) (marks : List Bool) (b : Bool) → Marked clock endpoint t l i marks → i < mostPeers → b ≡ goes clock endpoint t (peerOf (getD l i nobody)) → Marked clock endpoint t l (i + 1) (set marks i b)
   mark-next i marks b k h e =
-      (length-set marks i b ∙ k .0, fill-set (λ j. goes now endpoint t (peerOf (getD l j nobody))) (λ j. false) i marks (k .1) b (set marks i b) (rw (k .0) h) refl e)
+      (length-set marks i b ∙ k .0, fill-set (λ j. goes clock endpoint t (peerOf (getD l j nobody))) (λ j. false) i marks (k .1) b (set marks i b) (rw (k .0) h) refl e)
 
-  pub mark-all : (i : ℕ) (marks : List Bool) → i ≤ length l → Marked now endpoint t l i marks → Scanned now endpoint i t l marks
+  pub mark-all : (i : ℕ) (marks : List Bool) → i ≤ length l → Marked clock endpoint t l i marks → Scanned clock endpoint i t l marks
   mark-all i marks h k =
       record {
         wide = k .0;
-        each = λ j g p. k .1 .done j g ∙ ap (λ (q : Peer). goes now endpoint t (peerOf q)) (getD-any l j nobody p (omega arith));
+        each = λ j g p. k .1 .done j g ∙ ap (λ (q : Peer). goes clock endpoint t (peerOf q)) (getD-any l j nobody p (omega arith));
         none = λ j g. k .1 .left j g;
       }
 
@@ -122,20 +122,20 @@ some-keep : (f : ModelPeer → Bool) (ps : List ModelPeer) → any f ps ≡ some
 some-keep f [] = refl
 some-keep f (p ∷ ps) = by-test (f p) (λ b. rw b) (λ b. rw b (some-keep f ps))
 
-module _ (now endpoint : ℕ) (s : ModelState) (marks : List Bool) (g : Going now endpoint s marks) where
-  pub gone-by : keepBy marks (s .peers) ≡ gone now endpoint s
-  gone-by = keep-by-places noPeer (goes now endpoint (s .table)) marks (s .peers) (λ i h. g .each i h noPeer)
+module _ (clock endpoint : ℕ) (s : ModelState) (marks : List Bool) (g : Going clock endpoint s marks) where
+  pub gone-by : keepBy marks (s .peers) ≡ gone clock endpoint s
+  gone-by = keep-by-places noPeer (goes clock endpoint (s .table)) marks (s .peers) (λ i h. g .each i h noPeer)
 
-  pub stay-by : length (s .peers) ≤ mostPeers → keepBy (map not marks) (s .peers) ≡ stay now endpoint s
+  pub stay-by : length (s .peers) ≤ mostPeers → keepBy (map not marks) (s .peers) ≡ stay clock endpoint s
   stay-by l =
       let w : length marks ≡ mostPeers = g .wide in
-      keep-by-places noPeer (λ p. not (goes now endpoint (s .table) p)) (map not marks) (s .peers)
+      keep-by-places noPeer (λ p. not (goes clock endpoint (s .table) p)) (map not marks) (s .peers)
       (λ i h. not-at marks i (omega arith) ∙ ap not (g .each i h noPeer))
 
-  pub some-by : any (λ b. b) marks ≡ someOf (gone now endpoint s)
+  pub some-by : any (λ b. b) marks ≡ someOf (gone clock endpoint s)
   some-by =
-      any-places noPeer (goes now endpoint (s .table)) marks (s .peers) (λ i h. g .each i h noPeer) (g .none)
-      ∙ some-keep (goes now endpoint (s .table)) (s .peers)
+      any-places noPeer (goes clock endpoint (s .table)) marks (s .peers) (λ i h. g .each i h noPeer) (g .none)
+      ∙ some-keep (goes clock endpoint (s .table)) (s .peers)
 
 -- ---- those that stay, moved together: the first j of r are those that stay of the first i of l
 

@@ -41,20 +41,20 @@ use Rattle.upkeep.proofs.Leaving.{noPeer, peer-at, gone-by, stay-by, so
 
 -- ---- published
 
-module _ (now n : ℕ) (d : List ℕ) (s : ModelState) where
+module _ (clock n : ℕ) (d : List ℕ) (s : ModelState) where
   -- the second stays, over the first under the same number
-  published-twice : (e : List ℕ) → publishAs now n e (publishAs now n d s) ≡ publishAs now n e s
+  published-twice : (e : List ℕ) → publishAs clock n e (publishAs clock n d s) ≡ publishAs clock n e s
   unfolding publishAs put
   published-twice e =
-      ap (λ (t : List Entry). withTable t s) (insert-twice idOf (entryOf (s .own) n d 0 now) (entryOf (s .own) n e 0 now) (s .table) refl)
+      ap (λ (t : List Entry). withTable t s) (insert-twice idOf (entryOf (s .own) n d 0 clock) (entryOf (s .own) n e 0 clock) (s .table) refl)
 
-  published-data : ownData (publishAs now n d s) ≡ d
+  published-data : ownData (publishAs clock n d s) ≡ d
   unfolding publishAs
   published-data = ap (λ (e : Entry). e .says .nodeData) (published-own n d (s .peers) s)
 
-  published-held : isSome (look (publishAs now n d s .own) (publishAs now n d s .table)) ≡ true
+  published-held : isSome (look (publishAs clock n d s .own) (publishAs clock n d s .table)) ≡ true
   unfolding publishAs
-  published-held = ap isSome (look-put (entryOf (s .own) n d 0 now) (s .table))
+  published-held = ap isSome (look-put (entryOf (s .own) n d 0 clock) (s .table))
 
 -- ---- node data without Peer TLVs
 
@@ -115,91 +115,91 @@ module _ (s : ModelState) (p : ModelPeer) (d tlv : List ℕ) (q : d ≡ ownData 
 -- ---- published without the Peer TLVs of these peers
 
 abbrev publishedWithout : ℕ → ℕ → List ModelPeer → ModelState → ModelState
-publishedWithout now n ps s = publishAs now n (withoutPeers ps (ownData s)) s
+publishedWithout clock n ps s = publishAs clock n (withoutPeers ps (ownData s)) s
 
-module _ (now n : ℕ) (s : ModelState) (g : good dataLimit (ownData s) ≡ true) where
-  published-none : publishAs now n (ownData s) s ≡ publishedWithout now n [] s
-  published-none = ap (λ (d : List ℕ). publishAs now n d s) (sym (none-out (ownData s) (good-row dataLimit (ownData s) g)))
+module _ (clock n : ℕ) (s : ModelState) (g : good dataLimit (ownData s) ≡ true) where
+  published-none : publishAs clock n (ownData s) s ≡ publishedWithout clock n [] s
+  published-none = ap (λ (d : List ℕ). publishAs clock n d s) (sym (none-out (ownData s) (good-row dataLimit (ownData s) g)))
 
   module _ (ps : List ModelPeer) where
-    left : ownData (publishedWithout now n ps s) ≡ withoutPeers ps (ownData s)
-    left = published-data now n (withoutPeers ps (ownData s)) s
+    left : ownData (publishedWithout clock n ps s) ≡ withoutPeers ps (ownData s)
+    left = published-data clock n (withoutPeers ps (ownData s)) s
 
-    left-good : good dataLimit (ownData (publishedWithout now n ps s)) ≡ true
+    left-good : good dataLimit (ownData (publishedWithout clock n ps s)) ≡ true
     left-good = ap (good dataLimit) left ∙ without-good ps (ownData s) g
 
     -- one more, published under the same number
     published-one : (p : ModelPeer)
-        → publishAs now n (unlinked p (ownData (publishedWithout now n ps s))) (publishedWithout now n ps s) ≡ publishedWithout now n (ps ++ (p ∷ [])) s
+        → publishAs clock n (unlinked p (ownData (publishedWithout clock n ps s))) (publishedWithout clock n ps s) ≡ publishedWithout clock n (ps ++ (p ∷ [])) s
     published-one p =
-        published-twice now n (withoutPeers ps (ownData s)) s (unlinked p (ownData (publishedWithout now n ps s)))
-        ∙ ap (λ (d : List ℕ). publishAs now n (unlinked p d) s) left
-        ∙ ap (λ (d : List ℕ). publishAs now n d s) (sym (one-out (ownData s) (good-row dataLimit (ownData s) g) ps p))
+        published-twice clock n (withoutPeers ps (ownData s)) s (unlinked p (ownData (publishedWithout clock n ps s)))
+        ∙ ap (λ (d : List ℕ). publishAs clock n (unlinked p d) s) left
+        ∙ ap (λ (d : List ℕ). publishAs clock n d s) (sym (one-out (ownData s) (good-row dataLimit (ownData s) g) ps p))
 
 -- ---- the loop: the Peer TLVs of the marked peers before place i are out
 
 abbrev pub Out : ℕ → ℕ → List Bool → State → List ℕ → ℕ → State → List ℕ → Type 0
-Out now n marks s m i r m′ = Moved (publishedWithout now n (keepBy marks (take i (peersOf (s .peers)))) (stateOf s m)) m r m′
+Out clock n marks s m i r m′ = Moved (publishedWithout clock n (keepBy marks (take i (peersOf (s .peers)))) (stateOf s m)) m r m′
 
-module _ (now n : ℕ) (marks : List Bool) (s : State) (m : List ℕ) (k : Rep s m) (g : good dataLimit (ownData (stateOf s m)) ≡ true) where
-  pub out-none : (r : State) → Moved (publishAs now n (ownData (stateOf s m)) (stateOf s m)) m r m → Out now n marks s m 0 r m
+module _ (clock n : ℕ) (marks : List Bool) (s : State) (m : List ℕ) (k : Rep s m) (g : good dataLimit (ownData (stateOf s m)) ≡ true) where
+  pub out-none : (r : State) → Moved (publishAs clock n (ownData (stateOf s m)) (stateOf s m)) m r m → Out clock n marks s m 0 r m
   out-none r o =
       moved-to o
-      (published-none now n (stateOf s m) g ∙ ap (λ (ps : List ModelPeer). publishedWithout now n ps (stateOf s m)) (sym (keep-by-nil marks)))
+      (published-none clock n (stateOf s m) g ∙ ap (λ (ps : List ModelPeer). publishedWithout clock n ps (stateOf s m)) (sym (keep-by-nil marks)))
 
-  pub out-all : (i : ℕ) (r : State) (m′ : List ℕ) → s .peers .count ≤ i → Out now n marks s m i r m′
-      → Moved (publishedWithout now n (keepBy marks (stateOf s m .peers)) (stateOf s m)) m r m′
+  pub out-all : (i : ℕ) (r : State) (m′ : List ℕ) → s .peers .count ≤ i → Out clock n marks s m i r m′
+      → Moved (publishedWithout clock n (keepBy marks (stateOf s m .peers)) (stateOf s m)) m r m′
   out-all i r m′ h o =
       moved-to o
-      (ap (λ (ps : List ModelPeer). publishedWithout now n (keepBy marks ps) (stateOf s m))
+      (ap (λ (ps : List ModelPeer). publishedWithout clock n (keepBy marks ps) (stateOf s m))
       (take-all i (peersOf (s .peers)) (rw (peers-length (s .peers) (k .peers)) h) ∙ sym (state-peers s m)))
 
-  module _ (i : ℕ) (r : State) (m′ : List ℕ) (o : Out now n marks s m i r m′) where
+  module _ (i : ℕ) (r : State) (m′ : List ℕ) (o : Out clock n marks s m i r m′) where
     pub out-held : Held r m′
-    out-held = moved-held o (published-held now n (withoutPeers (keepBy marks (take i (peersOf (s .peers)))) (ownData (stateOf s m))) (stateOf s m))
+    out-held = moved-held o (published-held clock n (withoutPeers (keepBy marks (take i (peersOf (s .peers)))) (ownData (stateOf s m))) (stateOf s m))
 
     pub out-good : good dataLimit (ownData (stateOf r m′)) ≡ true
-    out-good = rw (o .is) (left-good now n (stateOf s m) g (keepBy marks (take i (peersOf (s .peers)))))
+    out-good = rw (o .is) (left-good clock n (stateOf s m) g (keepBy marks (take i (peersOf (s .peers)))))
 
     module _ (h : i < s .peers .count) where
       inside : i < length (peersOf (s .peers))
       inside = rw (peers-length (s .peers) (k .peers)) h
 
-      pub out-not : getD marks i false ≡ false → Out now n marks s m (i + 1) r m′
+      pub out-not : getD marks i false ≡ false → Out clock n marks s m (i + 1) r m′
       out-not e = rw (keep-by-out noPeer marks (peersOf (s .peers)) i inside e) o
 
-      pub out-one : getD marks i false ≡ true → (d : Peer) (q : State) (m″ : List ℕ) → WithoutLink now n (peerOf (getD (s .peers .list) i d)) (stateOf r m′) m′ q m″
-          → Out now n marks s m (i + 1) q m″
+      pub out-one : getD marks i false ≡ true → (d : Peer) (q : State) (m″ : List ℕ) → WithoutLink clock n (peerOf (getD (s .peers .list) i d)) (stateOf r m′) m′ q m″
+          → Out clock n marks s m (i + 1) q m″
       out-one e d q m″ l =
           let p : ModelPeer = getD (peersOf (s .peers)) i noPeer in
-          let w : WithoutLink now n (getD (peersOf (s .peers)) i noPeer) (stateOf r m′) m′ q m″ = rw (peer-at (s .peers) i d (k .peers) h) at l in
+          let w : WithoutLink clock n (getD (peersOf (s .peers)) i noPeer) (stateOf r m′) m′ q m″ = rw (peer-at (s .peers) i d (k .peers) h) at l in
           rw (keep-by-in noPeer marks (peersOf (s .peers)) i inside e)
-          (moved-to (moved-then o (λ x. publishAs now n (unlinked p (ownData x)) x) (w .moved))
-          (published-one now n (stateOf s m) g (keepBy marks (take i (peersOf (s .peers)))) p))
+          (moved-to (moved-then o (λ x. publishAs clock n (unlinked p (ownData x)) x) (w .moved))
+          (published-one clock n (stateOf s m) g (keepBy marks (take i (peersOf (s .peers)))) p))
 
 -- ---- silent peers gone
 
-module _ (now endpoint : ℕ) (s : State) (m : List ℕ) (k : Rep s m) (marks : List Bool) (g : Going now endpoint (stateOf s m) marks)
-    {b : Bool} (e : b ≡ any (λ b. b) marks || leb refreshAge (ageAt now (ownEntry (stateOf s m)))) where
+module _ (clock endpoint : ℕ) (s : State) (m : List ℕ) (k : Rep s m) (marks : List Bool) (g : Going clock endpoint (stateOf s m) marks)
+    {b : Bool} (e : b ≡ any (λ b. b) marks || leb refreshAge (ageAt clock (ownEntry (stateOf s m)))) where
   -- none is, and our age does not ask for it
-  pub calm-moved : b ≡ false → Moved (dropSilent now endpoint (stateOf s m)) m s m
+  pub calm-moved : b ≡ false → Moved (dropSilent clock endpoint (stateOf s m)) m s m
   calm-moved f =
-      let n : any (λ b. b) marks || leb refreshAge (ageAt now (ownEntry (stateOf s m))) ≡ false = sym e ∙ f in
+      let n : any (λ b. b) marks || leb refreshAge (ageAt clock (ownEntry (stateOf s m))) ≡ false = sym e ∙ f in
       moved-to (moved-not s m k)
       (sym
-      (silent-none now endpoint (stateOf s m) (sym (some-by now endpoint (stateOf s m) marks g) ∙ or-left (any (λ b. b) marks) _ n)
-      (leb-false refreshAge (ageAt now (ownEntry (stateOf s m))) (or-right (any (λ b. b) marks) _ n))))
+      (silent-none clock endpoint (stateOf s m) (sym (some-by clock endpoint (stateOf s m) marks g) ∙ or-left (any (λ b. b) marks) _ n)
+      (leb-false refreshAge (ageAt clock (ownEntry (stateOf s m))) (or-right (any (λ b. b) marks) _ n))))
 
   pub silent-moved : b ≡ true → (seq : ℕ) (r : State) (m′ : List ℕ) (p : Peers) → seq ≡ advance (ownSeq (stateOf s m)) 1
-      → Moved (publishedWithout now seq (keepBy marks (stateOf s m .peers)) (stateOf s m)) m r m′
+      → Moved (publishedWithout clock seq (keepBy marks (stateOf s m .peers)) (stateOf s m)) m r m′
       → PeersRep p × (peersOf p ≡ keepBy (map not marks) (peersOf (s .peers)))
-      → Moved (dropSilent now endpoint (stateOf s m)) m (putPeers p r) m′
+      → Moved (dropSilent clock endpoint (stateOf s m)) m (putPeers p r) m′
   silent-moved f seq r m′ p q o l =
       let S : ModelState = stateOf s m in
       let few : length (S .peers) ≤ mostPeers = rw (state-peers s m, peers-length (s .peers) (k .peers)) (k .peers .few) in
-      let w : peersOf p ≡ stay now endpoint S =
-      l .1 ∙ ap (keepBy (map not marks)) (sym (state-peers s m)) ∙ stay-by now endpoint S marks g few in
-      moved-to (moved-then o (withPeers (stay now endpoint S)) (peers-moved r m′ (o .rep) p (stay now endpoint S) (l .0) w))
-      (ap (λ (z : ℕ). withPeers (stay now endpoint S) (publishedWithout now z (keepBy marks (S .peers)) S)) q
-      ∙ ap (λ (z : List ModelPeer). withPeers (stay now endpoint S) (publishedWithout now (advance (ownSeq S) 1) z S)) (gone-by now endpoint S marks g)
-      ∙ sym (silent-some now endpoint S (ap (λ (x : Bool). x || leb refreshAge (ageAt now (ownEntry S))) (sym (some-by now endpoint S marks g)) ∙ sym e ∙ f)))
+      let w : peersOf p ≡ stay clock endpoint S =
+      l .1 ∙ ap (keepBy (map not marks)) (sym (state-peers s m)) ∙ stay-by clock endpoint S marks g few in
+      moved-to (moved-then o (withPeers (stay clock endpoint S)) (peers-moved r m′ (o .rep) p (stay clock endpoint S) (l .0) w))
+      (ap (λ (z : ℕ). withPeers (stay clock endpoint S) (publishedWithout clock z (keepBy marks (S .peers)) S)) q
+      ∙ ap (λ (z : List ModelPeer). withPeers (stay clock endpoint S) (publishedWithout clock (advance (ownSeq S) 1) z S)) (gone-by clock endpoint S marks g)
+      ∙ sym (silent-some clock endpoint S (ap (λ (x : Bool). x || leb refreshAge (ageAt clock (ownEntry S))) (sym (some-by clock endpoint S marks g)) ∙ sym e ∙ f)))

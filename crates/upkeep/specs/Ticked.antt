@@ -1,56 +1,52 @@
 -- What a tick that is not refused leaves. Assumes nothing.
 use mathlib.Core.Path.{_≡_}
-use mathlib.Core.Bool.{Bool, true, false}
+use mathlib.Core.Bool.{Bool, false}
 use mathlib.Core.List.{List}
 use Prim.Native.Nat.{ℕ, _≤_, _<_}
 use lib.ListN.{length, getD, take, drop}
-use Rattle.base.specs.Lists.{joinAll, All}
+use Rattle.base.specs.Lists.{joinAll}
 use Rattle.wire.specs.Row.{tlvs}
-use Rattle.wire.specs.Order.{good, without}
-use Rattle.model.specs.Figures.{mostBytes, mostPeers, dataLimit, tableBytes}
+use Rattle.wire.specs.Order.{without}
+use Rattle.model.specs.Figures.{mostBytes, mostPeers, tableBytes}
 use Rattle.model.specs.Table.{Entry}
 use Rattle.model.specs.State.{State as ModelState, Peer as ModelPeer, ownData, publishAs, peerTlv, settle}
 use Rattle.model.specs.Tick.{goes, dropSilent, ticked}
 use Rattle.model.specs.Invariant.{Midway}
-use Rattle.table.specs.View.{view, Kept}
+use Rattle.table.specs.View.{view, Kept, AllGood}
 use Rattle.table.specs.declared.Table.{Table}
 use Rattle.node.specs.declared.State.{State}
 use Rattle.node.specs.declared.peers.Peer.{Peer}
 use Rattle.node.specs.View.{peerOf, stateOf, Rep, Moved}
 use Rattle.upkeep.specs.declared.tick.Ticked.{Ticked}
 
--- every node's data are good
-abbrev pub AllGood : List Entry → Type 0
-AllGood t = All (λ e. good dataLimit (e .says .nodeData) ≡ true) t
-
 -- what the scan asks of the peers that are lent to it, of the table and of its memory: the first `count` stand there and were heard by now
-pub record Lent (now count : ℕ) (t : Table) (m : List ℕ) (list : List Peer) : Type 0 where
+pub record Lent (clock count : ℕ) (t : Table) (m : List ℕ) (list : List Peer) : Type 0 where
   pub table : Kept t m
   pub fine : AllGood (view t m)
   pub few : count ≤ mostPeers
   pub here : count ≤ length list
-  pub heard : (i : ℕ) → i < count → (p : Peer) → getD list i p .contact ≤ now
+  pub heard : (i : ℕ) → i < count → (p : Peer) → getD list i p .contact ≤ clock
 
 -- a mark for each of the first `count` peers of the list, set exactly if it goes
-pub record Scanned (now endpoint count : ℕ) (t : List Entry) (list : List Peer) (marks : List Bool) : Type 0 where
+pub record Scanned (clock endpoint count : ℕ) (t : List Entry) (list : List Peer) (marks : List Bool) : Type 0 where
   pub wide : length marks ≡ mostPeers
-  pub each : (i : ℕ) → i < count → (p : Peer) → getD marks i false ≡ goes now endpoint t (peerOf (getD list i p))
+  pub each : (i : ℕ) → i < count → (p : Peer) → getD marks i false ≡ goes clock endpoint t (peerOf (getD list i p))
   pub none : (i : ℕ) → count ≤ i → getD marks i false ≡ false
 
 -- a mark for each peer, set exactly if it goes
-pub record Going (now endpoint : ℕ) (s : ModelState) (marks : List Bool) : Type 0 where
+pub record Going (clock endpoint : ℕ) (s : ModelState) (marks : List Bool) : Type 0 where
   pub wide : length marks ≡ mostPeers
-  pub each : (i : ℕ) → i < length (s .peers) → (p : ModelPeer) → getD marks i false ≡ goes now endpoint (s .table) (getD (s .peers) i p)
+  pub each : (i : ℕ) → i < length (s .peers) → (p : ModelPeer) → getD marks i false ≡ goes clock endpoint (s .table) (getD (s .peers) i p)
   pub none : (i : ℕ) → length (s .peers) ≤ i → getD marks i false ≡ false
 
 -- our data without the peer's Peer TLV, which may have stood there
-pub record WithoutLink (now seq : ℕ) (p : ModelPeer) (s : ModelState) (m : List ℕ) (r : State) (m′ : List ℕ) : Type 0 where
-  pub moved : Moved (publishAs now seq (joinAll (without (peerTlv p) (tlvs (ownData s)))) s) m r m′
+pub record WithoutLink (clock seq : ℕ) (p : ModelPeer) (s : ModelState) (m : List ℕ) (r : State) (m′ : List ℕ) : Type 0 where
+  pub moved : Moved (publishAs clock seq (joinAll (without (peerTlv p) (tlvs (ownData s)))) s) m r m′
 
 -- silent peers gone and the digest compared: what the event then finds
-pub record Cleared (now endpoint : ℕ) (randoms : List ℕ) (s : ModelState) (m : List ℕ) (r : State) (m′ : List ℕ) : Type 0 where
-  pub moved : Moved (settle now randoms (dropSilent now endpoint s)) m r m′
-  pub midway : Midway now (settle now randoms (dropSilent now endpoint s))
+pub record Cleared (clock endpoint : ℕ) (randoms : List ℕ) (s : ModelState) (m : List ℕ) (r : State) (m′ : List ℕ) : Type 0 where
+  pub moved : Moved (settle clock randoms (dropSilent clock endpoint s)) m r m′
+  pub midway : Midway clock (settle clock randoms (dropSilent clock endpoint s))
 
 -- the model's answer, and every byte that is not the answer's as it was
 pub record TickedFrom (s : State) (m r : List ℕ) (clock endpoint : ℕ) (randoms : List ℕ) (o : Ticked) (m′ r′ : List ℕ) : Type 0 where

@@ -15,7 +15,7 @@ use table::Table;
 use table::age_at;
 use table::data_of;
 use table::find;
-use table::row_at;
+use table::meta_at;
 use wire::order::Standing;
 use wire::order::find_tlv;
 use wire::row::Header;
@@ -34,10 +34,10 @@ ghost use Rattle.model.specs.Table.{ageAt};
 ghost use Rattle.model.specs.State.{ownEntry, ownData, publishAs};
 ghost use Rattle.model.specs.Tick.{isKeepAlive, intervalIn, intervalOf, silentFor, goes, withoutPeers, dropSilent};
 ghost use Rattle.model.specs.Invariant.{Midway};
-ghost use Rattle.table.specs.View.{view, Kept};
+ghost use Rattle.table.specs.View.{view, Kept, AllGood};
 ghost use Rattle.reach.specs.Marks.{tlvOf};
 ghost use Rattle.node.specs.View.{peerOf, peersOf, stateOf, PeersRep, Rep, Held, Moved};
-ghost use Rattle.upkeep.specs.Ticked.{AllGood, Lent, Scanned, Going, WithoutLink};
+ghost use Rattle.upkeep.specs.Ticked.{Lent, Scanned, Going, WithoutLink};
 
 // The TLV is a Keep-Alive TLV for the endpoint.
 fn is_keep_alive(nd: &[u8], at: usize, h: Header, endpoint: u32) -> bool
@@ -215,7 +215,7 @@ fn is_stale(s: State, mem: &[u8], clock: u64) -> bool
     ensures { λ r. ⌜ r ≡ leb refreshAge (ageAt clock (ownEntry (stateOf s (now (mem .entry))))) ⌝ }
 {
     let i = own_place(s, mem);
-    let e = row_at(s.table, i);
+    let e = meta_at(s.table, i);
     4294901760 <= age_at(e, clock)
 }
 

@@ -12,11 +12,11 @@ use lib.Signed.{mag}
 use borrow.Author.Tests.{le-leb, lt-leb, leb-true}
 use Rattle.wire.specs.declared.groups.Groups.{Groups}
 use Rattle.wire.specs.declared.groups.Groups.the-variants.{Value, Bad}
-use Rattle.base.specs.Bytes.{Bytes}
+use Rattle.base.specs.Bytes.{Bytes, mostU32}
 use Rattle.base.specs.Lists.{orElse, All}
 use Rattle.base.specs.Memory.{written}
 use Rattle.wire.specs.Groups.{Read, groups, readGroups}
-use Rattle.wire.specs.Payment.{Payment, Payable, mostHousehold, folded, unfolded, paymentValue, most, ended, readPayment}
+use Rattle.wire.specs.Payment.{Payment, Payable, mostHousehold, folded, unfolded, paymentValue, ended, readPayment}
 use Rattle.wire.specs.Answers.{asRead, Inside}
 use Rattle.base.specs.Signed.{sumℤ}
 use Rattle.base.proofs.Tests.{and-left, and-right, and-no, and-both, by-test}
@@ -41,32 +41,32 @@ inside-value s at m g n e h q = subst (λ (x : Groups). Inside s at m x) q h
 -- ---- reading, number by number
 
 unfoldable pub afterTwo : ℕ → ℕ → List ℕ → Option Payment
-afterTwo h r s = orElse (readGroups most s) none (λ a. ended h r (a .number) (a .rest))
+afterTwo h r s = orElse (readGroups mostU32 s) none (λ a. ended h r (a .number) (a .rest))
 
 unfoldable pub afterOne : ℕ → List ℕ → Option Payment
-afterOne h s = orElse (readGroups most s) none (λ r. afterTwo h (r .number) (r .rest))
+afterOne h s = orElse (readGroups mostU32 s) none (λ r. afterTwo h (r .number) (r .rest))
 
-pub first-bad : (s : List ℕ) → readGroups most s ≡ none → readPayment s ≡ none
+pub first-bad : (s : List ℕ) → readGroups mostU32 s ≡ none → readPayment s ≡ none
 unfolding readPayment
 first-bad s e = rw e
 
-pub first-on : (s : List ℕ) (h : ℕ) (d : List ℕ) → readGroups most s ≡ got h d → readPayment s ≡ afterOne h d
+pub first-on : (s : List ℕ) (h : ℕ) (d : List ℕ) → readGroups mostU32 s ≡ got h d → readPayment s ≡ afterOne h d
 unfolding readPayment afterOne afterTwo
 first-on s h d e = rw e
 
-pub second-bad : (h : ℕ) (s : List ℕ) → readGroups most s ≡ none → afterOne h s ≡ none
+pub second-bad : (h : ℕ) (s : List ℕ) → readGroups mostU32 s ≡ none → afterOne h s ≡ none
 unfolding afterOne
 second-bad h s e = rw e
 
-pub second-on : (h : ℕ) (s : List ℕ) (r : ℕ) (d : List ℕ) → readGroups most s ≡ got r d → afterOne h s ≡ afterTwo h r d
+pub second-on : (h : ℕ) (s : List ℕ) (r : ℕ) (d : List ℕ) → readGroups mostU32 s ≡ got r d → afterOne h s ≡ afterTwo h r d
 unfolding afterOne
 second-on h s r d e = rw e
 
-pub third-bad : (h r : ℕ) (s : List ℕ) → readGroups most s ≡ none → afterTwo h r s ≡ none
+pub third-bad : (h r : ℕ) (s : List ℕ) → readGroups mostU32 s ≡ none → afterTwo h r s ≡ none
 unfolding afterTwo
 third-bad h r s e = rw e
 
-pub third-on : (h r : ℕ) (s : List ℕ) (a : ℕ) (d : List ℕ) → readGroups most s ≡ got a d → afterTwo h r s ≡ ended h r a d
+pub third-on : (h r : ℕ) (s : List ℕ) (a : ℕ) (d : List ℕ) → readGroups mostU32 s ≡ got a d → afterTwo h r s ≡ ended h r a d
 unfolding afterTwo
 third-on h r s a d e = rw e
 
@@ -98,10 +98,10 @@ payment-back p k =
     let g = groups (folded (p .amount)) in
     let e : groups (folded (p .amount)) ++ [] ≡ groups (folded (p .amount)) = append-nil (groups (folded (p .amount))) in
     first-on (groups (p .household) ++ (groups (p .receipt) ++ groups (folded (p .amount)))) (p .household) (groups (p .receipt) ++ groups (folded (p .amount)))
-    (read-written most (p .household) (groups (p .receipt) ++ groups (folded (p .amount))) (omega (arith, k .high)))
+    (read-written mostU32 (p .household) (groups (p .receipt) ++ groups (folded (p .amount))) (omega (arith, k .high)))
     ∙ second-on (p .household) (groups (p .receipt) ++ groups (folded (p .amount))) (p .receipt) (groups (folded (p .amount)))
-    (read-written most (p .receipt) (groups (folded (p .amount))) (k .receipt))
-    ∙ third-on (p .household) (p .receipt) (groups (folded (p .amount))) (folded (p .amount)) [] (rw e at (read-written most (folded (p .amount)) [] (k .amount)))
+    (read-written mostU32 (p .receipt) (groups (folded (p .amount))) (k .receipt))
+    ∙ third-on (p .household) (p .receipt) (groups (folded (p .amount))) (folded (p .amount)) [] (rw e at (read-written mostU32 (folded (p .amount)) [] (k .amount)))
     ∙ ended-well (p .household) (p .receipt) (folded (p .amount)) [] refl (k .low) (k .high) ∙ rw (unfold-fold (p .amount))
 
 -- at most twelve bytes for a payment, fifteen for any three numbers below 2^35
@@ -111,16 +111,16 @@ value-short p a b c =
     omega (arith, length-append (groups (p .household)) (groups (p .receipt) ++ groups (folded (p .amount))), length-append (groups (p .receipt)) (groups (folded (p .amount))), groups-length 4 (p .household) a, groups-length 4 (p .receipt) b, groups-length 4 (folded (p .amount)) c)
 
 -- the code's three readings
-module _ (s : List ℕ) (g1 : Groups) (h a : ℕ) (e1 : asRead s g1 ≡ readGroups most s) (q1 : g1 ≡ Value h a) where
+module _ (s : List ℕ) (g1 : Groups) (h a : ℕ) (e1 : asRead s g1 ≡ readGroups mostU32 s) (q1 : g1 ≡ Value h a) where
   pub one-read : readPayment s ≡ afterOne h (drop a s)
-  one-read = first-on s h (drop a s) (as-value s g1 (readGroups most s) h a e1 q1)
+  one-read = first-on s h (drop a s) (as-value s g1 (readGroups mostU32 s) h a e1 q1)
 
-  module _ (g2 : Groups) (r b : ℕ) (e2 : asRead s g2 ≡ readGroups most (drop a s)) (q2 : g2 ≡ Value r b) where
+  module _ (g2 : Groups) (r b : ℕ) (e2 : asRead s g2 ≡ readGroups mostU32 (drop a s)) (q2 : g2 ≡ Value r b) where
     pub two-read : readPayment s ≡ afterTwo h r (drop b s)
-    two-read = one-read ∙ second-on h (drop a s) r (drop b s) (as-value s g2 (readGroups most (drop a s)) r b e2 q2)
+    two-read = one-read ∙ second-on h (drop a s) r (drop b s) (as-value s g2 (readGroups mostU32 (drop a s)) r b e2 q2)
 
-    pub three-read : (g3 : Groups) (f e : ℕ) → asRead s g3 ≡ readGroups most (drop b s) → g3 ≡ Value f e → readPayment s ≡ ended h r f (drop e s)
-    three-read g3 f e e3 q3 = two-read ∙ third-on h r (drop b s) f (drop e s) (as-value s g3 (readGroups most (drop b s)) f e e3 q3)
+    pub three-read : (g3 : Groups) (f e : ℕ) → asRead s g3 ≡ readGroups mostU32 (drop b s) → g3 ≡ Value f e → readPayment s ≡ ended h r f (drop e s)
+    three-read g3 f e e3 q3 = two-read ∙ third-on h r (drop b s) f (drop e s) (as-value s g3 (readGroups mostU32 (drop b s)) f e e3 q3)
 
 -- the three numbers that the code writes are the value
 module _ (d : List ℕ) (at : ℕ) (p : Payment) (d1 d2 d3 : List ℕ) (a b e f : ℕ)
@@ -156,31 +156,31 @@ spelt-end v h r a [] e =
     (λ q. rw q (e ∙ rw (fold-unfold a, append-nil (groups a))))
     (λ q. rw q tt)
 
-spelt-two : (v : List ℕ) (h r : ℕ) (s : List ℕ) → Bytes s → v ≡ groups h ++ (groups r ++ s) → (o : Option Read) → readGroups most s ≡ o → Spelt v (afterTwo h r s)
+spelt-two : (v : List ℕ) (h r : ℕ) (s : List ℕ) → Bytes s → v ≡ groups h ++ (groups r ++ s) → (o : Option Read) → readGroups mostU32 s ≡ o → Spelt v (afterTwo h r s)
 unfolding afterTwo
 spelt-two v h r s b e none q = rw q tt
-spelt-two v h r s b e (some x) q = rw q (spelt-end v h r (x .number) (x .rest) (e ∙ ap (λ (z : List ℕ). groups h ++ (groups r ++ z)) (read-once most s x b q)))
+spelt-two v h r s b e (some x) q = rw q (spelt-end v h r (x .number) (x .rest) (e ∙ ap (λ (z : List ℕ). groups h ++ (groups r ++ z)) (read-once mostU32 s x b q)))
 
-spelt-one : (v : List ℕ) (h : ℕ) (s : List ℕ) → Bytes s → v ≡ groups h ++ s → (o : Option Read) → readGroups most s ≡ o → Spelt v (afterOne h s)
+spelt-one : (v : List ℕ) (h : ℕ) (s : List ℕ) → Bytes s → v ≡ groups h ++ s → (o : Option Read) → readGroups mostU32 s ≡ o → Spelt v (afterOne h s)
 unfolding afterOne
 spelt-one v h s b e none q = rw q tt
 spelt-one v h s b e (some x) q =
-    let k : s ≡ groups (x .number) ++ x .rest = read-once most s x b q in
-    rw q (spelt-two v h (x .number) (x .rest) (bytes-right (groups (x .number)) (x .rest) (subst Bytes k b)) (e ∙ ap (λ (z : List ℕ). groups h ++ z) k) (readGroups most (x .rest)) refl)
+    let k : s ≡ groups (x .number) ++ x .rest = read-once mostU32 s x b q in
+    rw q (spelt-two v h (x .number) (x .rest) (bytes-right (groups (x .number)) (x .rest) (subst Bytes k b)) (e ∙ ap (λ (z : List ℕ). groups h ++ z) k) (readGroups mostU32 (x .rest)) refl)
 
-spelt-all : (v : List ℕ) → Bytes v → (o : Option Read) → readGroups most v ≡ o → Spelt v (readPayment v)
+spelt-all : (v : List ℕ) → Bytes v → (o : Option Read) → readGroups mostU32 v ≡ o → Spelt v (readPayment v)
 spelt-all v b none q = rw (first-bad v q) tt
 spelt-all v b (some x) q =
-    let k : v ≡ groups (x .number) ++ x .rest = read-once most v x b q in
-    rw (first-on v (x .number) (x .rest) q) (spelt-one v (x .number) (x .rest) (bytes-right (groups (x .number)) (x .rest) (subst Bytes k b)) k (readGroups most (x .rest)) refl)
+    let k : v ≡ groups (x .number) ++ x .rest = read-once mostU32 v x b q in
+    rw (first-on v (x .number) (x .rest) q) (spelt-one v (x .number) (x .rest) (bytes-right (groups (x .number)) (x .rest) (subst Bytes k b)) k (readGroups mostU32 (x .rest)) refl)
 
 -- a payment that is read stands there as it is written
 pub payment-once : (v : List ℕ) (p : Payment) → Bytes v → readPayment v ≡ some p → v ≡ paymentValue p
-payment-once v p b e = subst (Spelt v) e (spelt-all v b (readGroups most v) refl)
+payment-once v p b e = subst (Spelt v) e (spelt-all v b (readGroups mostU32 v) refl)
 
 -- ---- what is read can be written, and is small
 
-ended-payable : (h r a : ℕ) (d : List ℕ) (p : Payment) → r ≤ most → a ≤ most → ended h r a d ≡ some p → Payable p
+ended-payable : (h r a : ℕ) (d : List ℕ) (p : Payment) → r ≤ mostU32 → a ≤ mostU32 → ended h r a d ≡ some p → Payable p
 unfolding ended
 ended-payable h r a (b ∷ d) p kr ka e = nothing p e
 ended-payable h r a [] p kr ka e =
@@ -197,16 +197,16 @@ ended-payable h r a [] p kr ka e =
 pub read-payable : (v : List ℕ) (p : Payment) → readPayment v ≡ some p → Payable p
 unfolding readPayment
 read-payable v p e =
-    or-else-some (readGroups most v) _ p e
-    (λ h eh kh. or-else-some (readGroups most (h .rest)) _ p kh
-    (λ r er kr. or-else-some (readGroups most (r .rest)) _ p kr
-    (λ a ea ka. ended-payable (h .number) (r .number) (a .number) (a .rest) p (read-most most (h .rest) r er) (read-most most (r .rest) a ea) ka)))
+    or-else-some (readGroups mostU32 v) _ p e
+    (λ h eh kh. or-else-some (readGroups mostU32 (h .rest)) _ p kh
+    (λ r er kr. or-else-some (readGroups mostU32 (r .rest)) _ p kr
+    (λ a ea ka. ended-payable (h .number) (r .number) (a .number) (a .rest) p (read-most mostU32 (h .rest) r er) (read-most mostU32 (r .rest) a ea) ka)))
 
 -- an amount has 31 bits and a sign
 abbrev pub amountLimit : ℕ
 amountLimit = 2147483648
 
-folded-mag : (x : ℤ) → folded x ≤ most → mag x < amountLimit
+folded-mag : (x : ℤ) → folded x ≤ mostU32 → mag x < amountLimit
 folded-mag (pos n) h = omega arith
 folded-mag (negsuc n) h = omega arith
 

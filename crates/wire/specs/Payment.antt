@@ -5,6 +5,7 @@ use mathlib.Core.Option.{Option, none, some}
 use Prim.Native.Nat.{ℕ, _+_, _*_, _/_, _%_, _≤_}
 use lib.Dec.{eqb, leb}
 use lib.IntN.{ℤ, pos, negsuc}
+use Rattle.base.specs.Bytes.{mostU32}
 use Rattle.base.specs.Lists.{orElse}
 use Rattle.wire.specs.Row.{encode}
 use Rattle.wire.specs.Groups.{groups, readGroups}
@@ -30,10 +31,6 @@ paymentValue p = groups (p .household) ++ (groups (p .receipt) ++ groups (folded
 unfoldable pub paymentTlv : Payment → List ℕ
 paymentTlv p = encode 40 (paymentValue p)
 
--- "below 2^32"
-abbrev pub most : ℕ
-most = 4294967295
-
 -- "Households 1 to 9,999"
 abbrev pub mostHousehold : ℕ
 mostHousehold = 9999
@@ -43,14 +40,15 @@ unfoldable pub ended : ℕ → ℕ → ℕ → List ℕ → Option Payment
 ended h r a [] = cond (leb 1 h && leb h mostHousehold) (some (record { household = h; receipt = r; amount = unfolded a })) none
 ended h r a (b ∷ s) = none
 
+-- "each in seven-bit groups .., below 2^32"
 unfoldable pub readPayment : List ℕ → Option Payment
 readPayment s =
-    orElse (readGroups most s) none
-    (λ h. orElse (readGroups most (h .rest)) none (λ r. orElse (readGroups most (r .rest)) none (λ a. ended (h .number) (r .number) (a .number) (a .rest))))
+    orElse (readGroups mostU32 s) none
+    (λ h. orElse (readGroups mostU32 (h .rest)) none (λ r. orElse (readGroups mostU32 (r .rest)) none (λ a. ended (h .number) (r .number) (a .number) (a .rest))))
 
 -- what can be written: every number in its range
 pub record Payable (p : Payment) : Type 0 where
   pub low : 1 ≤ p .household
   pub high : p .household ≤ mostHousehold
-  pub receipt : p .receipt ≤ most
-  pub amount : folded (p .amount) ≤ most
+  pub receipt : p .receipt ≤ mostU32
+  pub amount : folded (p .amount) ≤ mostU32

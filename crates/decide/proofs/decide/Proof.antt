@@ -1,5 +1,5 @@
 use borrow.Author.Needs.{needs}
-use Rattle.table.proofs.Rows.{stands-of, gap-of}
+use Rattle.table.proofs.Tables.{stands-of, gap-of}
 use Rattle.decide.proofs.Cases.{decided}
 use Rattle.decide.proofs.decide.Statement.{statement}
 use Rattle.decide.proofs.decide.Tie as tie
@@ -44,7 +44,7 @@ decide-held-requires c κs =
     let id = c .before .before .before .before .before .before .before .before .read-u32 in
     let f = c .before .before .before .find in
     let g = c .before .found .given in
-    (p .0 .rows, stands-of (a .t) (id .result) (g .0 .0) (f .result) (g .1) (f .ensures))
+    (p .0 .arranged, stands-of (a .t) (id .result) (g .0 .0) (f .result) (g .1) (f .ensures))
 
 enum-known-found-2 : tie.Need-enum-known-found-2
 enum-known-found-2 c = search needs
@@ -56,7 +56,7 @@ decide-new-requires c κs =
     let id = c .before .before .before .before .before .before .before .before .read-u32 in
     let f = c .before .before .before .find in
     let g = c .before .found2 .given in
-    (p .0 .rows, gap-of (a .t) (id .result) (g .0 .0) (f .result) (g .1) (f .ensures))
+    (p .0 .arranged, gap-of (a .t) (id .result) (g .0 .0) (f .result) (g .1) (f .ensures))
 
 returns : tie.Need-returns
 returns c =

@@ -3,8 +3,8 @@ use Rattle.decide.proofs.Cases.{unwanted, replaces, bad-held, renumbers
 use Rattle.decide.proofs.decide_held.Statement.{statement}
 use Rattle.decide.proofs.decide_held.Tie as tie
 
-row-at-requires : tie.Need-row-at-requires
-row-at-requires c κs = search needs
+meta-at-requires : tie.Need-meta-at-requires
+meta-at-requires c κs = search needs
 
 is-different-requires : tie.Need-is-different-requires
 is-different-requires c κs = search needs
@@ -13,7 +13,7 @@ returns : tie.Need-returns
 returns c v x =
     let a = c .before .before .before .before .before .args in
     let p = c .before .before .before .before .before .pre in
-    let row = c .before .before .row-at in
+    let row = c .before .before .meta-at in
     let w = c .before .is-different in
     unwanted (a .t) (a .place) (a .node) (a .seq) (a .age) (a .hash .now) (a .bytes .now) v (p .0) x (row .result) (p .1) (row .ensures)
     (w .result) (w .ensures) (c .if1 .taken)
@@ -28,7 +28,7 @@ returns-2 : tie.Need-returns-2
 returns-2 c v x =
     let a = c .before .before .before .before .before .before .before .before .before .args in
     let p = c .before .before .before .before .before .before .before .before .before .pre in
-    let row = c .before .before .before .before .before .before .row-at in
+    let row = c .before .before .before .before .before .before .meta-at in
     let w = c .before .before .before .before .before .is-different in
     let b = c .before .before .before .is-carrying in
     let y = c .before .is-fine in
@@ -40,7 +40,7 @@ returns-3 : tie.Need-returns-3
 returns-3 c v x =
     let a = c .before .before .before .before .before .before .before .before .before .args in
     let p = c .before .before .before .before .before .before .before .before .before .pre in
-    let row = c .before .before .before .before .before .before .row-at in
+    let row = c .before .before .before .before .before .before .meta-at in
     let w = c .before .before .before .before .before .is-different in
     let b = c .before .before .before .is-carrying in
     let y = c .before .is-fine in
@@ -58,7 +58,7 @@ returns-4 : tie.Need-returns-4
 returns-4 c v x =
     let a = c .before .before .before .before .before .before .before .before .before .before .before .args in
     let p = c .before .before .before .before .before .before .before .before .before .before .before .pre in
-    let row = c .before .before .before .before .before .before .before .before .row-at in
+    let row = c .before .before .before .before .before .before .before .before .meta-at in
     let w = c .before .before .before .before .before .before .before .is-different in
     let b = c .before .before .before .before .before .is-carrying in
     let y = c .before .is-same in
@@ -70,7 +70,7 @@ returns-5 : tie.Need-returns-5
 returns-5 c v x =
     let a = c .before .before .before .before .before .before .before .before .before .before .before .args in
     let p = c .before .before .before .before .before .before .before .before .before .before .before .pre in
-    let row = c .before .before .before .before .before .before .before .before .row-at in
+    let row = c .before .before .before .before .before .before .before .before .meta-at in
     let w = c .before .before .before .before .before .before .before .is-different in
     let b = c .before .before .before .before .before .is-carrying in
     let y = c .before .is-same in
@@ -82,7 +82,7 @@ pub decide-held-spec : {M : Type 1} → statement M
 decide-held-spec =
     tie.close
     (tie.spec
-    row-at-requires
+    meta-at-requires
     is-different-requires
     returns
     is-carrying-requires

@@ -2,7 +2,7 @@ use borrow.Author.Needs.{needs}
 use Rattle.table.proofs.begin.Statement.{statement}
 use Rattle.table.proofs.begin.Tie as tie
 use mathlib.Core.Path.{refl}
-use Rattle.table.proofs.Rows.{begun}
+use Rattle.table.proofs.Tables.{begun}
 
 sub-hash16 : tie.Need-sub-hash16
 sub-hash16 c = search needs

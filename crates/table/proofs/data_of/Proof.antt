@@ -3,10 +3,10 @@ use Rattle.table.proofs.data_of.Statement.{statement}
 use Rattle.table.proofs.data_of.Tie as tie
 use native.Mathlib.Omega.{arith}
 use mathlib.Core.Path.{refl}
-use Rattle.table.proofs.Rows.{data-read}
+use Rattle.table.proofs.Tables.{data-read}
 
-row-at-requires : tie.Need-row-at-requires
-row-at-requires c κs = search needs
+meta-at-requires : tie.Need-meta-at-requires
+meta-at-requires c κs = search needs
 
 mul-a : tie.Need-mul-a
 mul-a c = search needs
@@ -26,11 +26,11 @@ part-result-end c = search needs
 returns : tie.Need-returns
 returns c =
     let a = c .before .before .before .before .before .args in
-    let o = c .before .before .before .row-at in
+    let o = c .before .before .before .meta-at in
     let e = data-read (a .t) (a .mem .now) (a .i) (o .result) (o .ensures) in
     (e .0, (refl, omega (arith, e .1)))
 
 pub data-of-spec : {M : Type 1} → statement M
 data-of-spec =
     tie.close
-    (tie.spec row-at-requires mul-a add-b sub-result part-result-start part-result-end returns)
+    (tie.spec meta-at-requires mul-a add-b sub-result part-result-start part-result-end returns)

@@ -2,12 +2,12 @@ use Rattle.table.proofs.find.Statement.{statement}
 use Rattle.table.proofs.find.Tie as tie
 use Prim.Native.Nat.{ℕ, _≤_, _<_, _-_}
 use native.Mathlib.Omega.{arith}
-use Rattle.table.specs.View.{rowAt}
-use Rattle.table.proofs.Rows.{id-is, id-over, ids-under}
+use Rattle.table.specs.View.{metaAt}
+use Rattle.table.proofs.Tables.{id-is, id-over, ids-under}
 use borrow.Author.Needs.{needs}
 
 abbrev Inv-loop : tie.InvT-loop
-Inv-loop id t count i₀ i = (i ≤ count) × ((k : ℕ) → k < i → rowAt t k .id < id)
+Inv-loop id t count i₀ i = (i ≤ count) × ((k : ℕ) → k < i → metaAt t k .id < id)
 
 abbrev μ-loop : tie.MeasureT-loop
 μ-loop id t count i₀ i = count - i

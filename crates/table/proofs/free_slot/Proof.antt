@@ -6,7 +6,7 @@ use mathlib.Core.Bool.{Bool, true}
 use native.Mathlib.Omega.{arith}
 use borrow.Author.Tests.{not-true, not-false}
 use Rattle.table.specs.View.{SlotUsed}
-use Rattle.table.proofs.Rows.{slots-used, all-used, unused-free}
+use Rattle.table.proofs.Tables.{slots-used, all-used, unused-free}
 use borrow.Author.Needs.{needs}
 
 abbrev Inv-loop : tie.InvT-loop

@@ -3,7 +3,7 @@ use Rattle.table.proofs.insert.Statement.{statement}
 use Rattle.table.proofs.insert.Tie as tie
 use mathlib.Core.Path.{refl}
 use lib.ListN.{length}
-use Rattle.table.proofs.Rows.{added}
+use Rattle.table.proofs.Tables.{added}
 
 free-slot-requires : tie.Need-free-slot-requires
 free-slot-requires c κs = search needs
@@ -14,8 +14,8 @@ mul-at c = search needs
 store-requires : tie.Need-store-requires
 store-requires c κs = search needs
 
-insert-row-requires : tie.Need-insert-row-requires
-insert-row-requires c κs = search needs
+insert-meta-requires : tie.Need-insert-meta-requires
+insert-meta-requires c κs = search needs
 
 same-length : tie.Need-same-length
 same-length c = search needs
@@ -25,10 +25,10 @@ returns c =
     let a = c .before .before .before .before .before .before .before .before .args in
     let p = c .before .before .before .before .before .before .before .before .pre in
     let o = c .before .before .before .before .before .free-slot in
-    added (a .t) (c .insert-row .result) (a .mem .now) (c .before .before .before .store .last .0) (a .bytes .now) (a .i) (a .id) (a .seq) (a .age) (a .clock) (length (a .bytes .now)) (o .result) (a .hash) (p .0) (p .1 .1 .1 .0) refl (p .1 .1 .1 .1) (c .before .before .before .store .ensures)
-    (p .1 .0) (p .1 .1 .0) (o .ensures .0) (o .ensures .1) (c .insert-row .ensures)
+    added (a .t) (c .insert-meta .result) (a .mem .now) (c .before .before .before .store .last .0) (a .bytes .now) (a .i) (a .id) (a .seq) (a .age) (a .clock) (length (a .bytes .now)) (o .result) (a .hash) (p .0) (p .1 .1 .1 .0) refl (p .1 .1 .1 .1) (c .before .before .before .store .ensures)
+    (p .1 .0) (p .1 .1 .0) (o .ensures .0) (o .ensures .1) (c .insert-meta .ensures)
 
 pub insert-spec : {M : Type 1} → statement M
 insert-spec =
     tie.close
-    (tie.spec free-slot-requires mul-at store-requires insert-row-requires same-length returns)
+    (tie.spec free-slot-requires mul-at store-requires insert-meta-requires same-length returns)

@@ -7,7 +7,7 @@ use mathlib.Core.Bool.{false}
 use Prim.Native.Nat.{_+_, _-_, _≤_}
 use lib.ListN.{length, take, drop, getD, length-set}
 use Rattle.base.specs.Lists.{keepBy}
-use Rattle.table.proofs.Rows.{purged, keep-on, keep-end, cond-most, live-length}
+use Rattle.table.proofs.Tables.{purged, keep-on, keep-end, cond-most, live-length}
 use borrow.Author.Needs.{needs}
 
 abbrev Inv-loop : tie.InvT-loop

@@ -3,10 +3,10 @@ use Rattle.table.proofs.replace.Statement.{statement}
 use Rattle.table.proofs.replace.Tie as tie
 use mathlib.Core.Path.{refl}
 use lib.ListN.{length}
-use Rattle.table.proofs.Rows.{replaced}
+use Rattle.table.proofs.Tables.{replaced}
 
-row-at-requires : tie.Need-row-at-requires
-row-at-requires c κs = search needs
+meta-at-requires : tie.Need-meta-at-requires
+meta-at-requires c κs = search needs
 
 mul-at : tie.Need-mul-at
 mul-at c = search needs
@@ -14,8 +14,8 @@ mul-at c = search needs
 store-requires : tie.Need-store-requires
 store-requires c κs = search needs
 
-with-row-requires : tie.Need-with-row-requires
-with-row-requires c κs = search needs
+with-meta-requires : tie.Need-with-meta-requires
+with-meta-requires c κs = search needs
 
 same-length : tie.Need-same-length
 same-length c = search needs
@@ -24,11 +24,11 @@ returns : tie.Need-returns
 returns c =
     let a = c .before .before .before .before .before .before .before .before .args in
     let p = c .before .before .before .before .before .before .before .before .pre in
-    let o = c .before .before .before .before .before .row-at in
-    replaced (a .t) (c .with-row .result) (a .mem .now) (c .before .before .before .store .last .0) (a .bytes .now) (a .i) (a .id) (a .seq) (a .age) (a .clock) (length (a .bytes .now)) (o .result .slot) (a .hash) (p .0) (p .1 .1 .0) refl (p .1 .1 .1) (c .before .before .before .store .ensures)
-    (o .result) (o .ensures) refl (p .1 .0) (c .with-row .ensures)
+    let o = c .before .before .before .before .before .meta-at in
+    replaced (a .t) (c .with-meta .result) (a .mem .now) (c .before .before .before .store .last .0) (a .bytes .now) (a .i) (a .id) (a .seq) (a .age) (a .clock) (length (a .bytes .now)) (o .result .slot) (a .hash) (p .0) (p .1 .1 .0) refl (p .1 .1 .1) (c .before .before .before .store .ensures)
+    (o .result) (o .ensures) refl (p .1 .0) (c .with-meta .ensures)
 
 pub replace-spec : {M : Type 1} → statement M
 replace-spec =
     tie.close
-    (tie.spec row-at-requires mul-at store-requires with-row-requires same-length returns)
+    (tie.spec meta-at-requires mul-at store-requires with-meta-requires same-length returns)

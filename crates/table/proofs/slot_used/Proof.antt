@@ -3,12 +3,12 @@ use Rattle.table.proofs.slot_used.Tie as tie
 use Prim.Native.Nat.{ℕ, _≤_, _<_, _-_}
 use mathlib.Core.Path.{_≡_}
 use native.Mathlib.Omega.{arith}
-use Rattle.table.specs.View.{rowAt}
-use Rattle.table.proofs.Rows.{slot-is, slots-differ}
+use Rattle.table.specs.View.{metaAt}
+use Rattle.table.proofs.Tables.{slot-is, slots-differ}
 use borrow.Author.Needs.{needs}
 
 abbrev Inv-loop : tie.InvT-loop
-Inv-loop s t count i₀ i = (i ≤ count) × ((k : ℕ) → k < i → ¬ (rowAt t k .slot ≡ s))
+Inv-loop s t count i₀ i = (i ≤ count) × ((k : ℕ) → k < i → ¬ (metaAt t k .slot ≡ s))
 
 abbrev μ-loop : tie.MeasureT-loop
 μ-loop s t count i₀ i = count - i

@@ -6,7 +6,7 @@ use native.Mathlib.Omega.{arith}
 use Rattle.table.specs.View.{view}
 use Rattle.accounts.proofs.totals.tally.Statement.{statement}
 use Rattle.accounts.proofs.totals.tally.Tie as tie
-use Rattle.accounts.proofs.Sums.{AddedBelow, table-start, row-good, rows-room, rows-stay, rows-on, rows-end}
+use Rattle.accounts.proofs.Sums.{AddedBelow, table-start, row-good, metas-room, metas-stay, metas-on, metas-end}
 
 abbrev Inv-loop : tie.InvT-loop
 Inv-loop t mem w marks count r₀ i₀ r i = (i ≤ count) × AddedBelow w marks (view t mem) r i
@@ -28,7 +28,7 @@ add-data-requires c κs =
     let a = c .before .before .before .before .before .args in
     let p = c .before .before .before .before .before .pre in
     let v = c .before .before .before .loop in (
-      rows-room (a .t) (a .mem .now) (p .0) (a .w) (a .t3) (v .r) (v .i) (v .inv .1) (p .1) (c .before .before .loop-test .taken),
+      metas-room (a .t) (a .mem .now) (p .0) (a .w) (a .t3) (v .r) (v .i) (v .inv .1) (p .1) (c .before .before .loop-test .taken),
       row-good (a .t) (a .mem .now) (p .0) (p .1) (v .i) (c .before .before .loop-test .taken) (c .data-of .result .now) (c .data-of .ensures .0),
     )
 
@@ -45,8 +45,8 @@ loop-again c =
     let v = c .before .before .loop in (
       omega arith,
       ⊎-elim
-          (λ b. rows-on (a .t) (a .mem .now) (p .0) (a .w) (a .t3) (v .r) (v .i) (v .inv .1) (c .if1 .r) (c .before .loop-test .taken) (b .0 .taken) (b .1 .result .now) (b .1 .ensures .0) (b .2 .result) (b .2 .ensures) (b .3))
-          (λ b. rows-stay (a .t) (a .mem .now) (p .0) (a .w) (a .t3) (v .r) (v .i) (v .inv .1) (c .if1 .r) (c .before .loop-test .taken) (b .0 .left) (b .1))
+          (λ b. metas-on (a .t) (a .mem .now) (p .0) (a .w) (a .t3) (v .r) (v .i) (v .inv .1) (c .if1 .r) (c .before .loop-test .taken) (b .0 .taken) (b .1 .result .now) (b .1 .ensures .0) (b .2 .result) (b .2 .ensures) (b .3))
+          (λ b. metas-stay (a .t) (a .mem .now) (p .0) (a .w) (a .t3) (v .r) (v .i) (v .inv .1) (c .if1 .r) (c .before .loop-test .taken) (b .0 .left) (b .1))
           (c .if1 .came),
     )
 
@@ -54,7 +54,7 @@ returns : tie.Need-returns Inv-loop μ-loop
 returns c =
     let a = c .before .before .before .args in
     let v = c .before .loop in
-    rows-end (a .t) (a .mem .now) (c .before .before .before .pre .0) (a .w) (a .t3) (v .r) (v .i) (v .inv .1) (omega arith)
+    metas-end (a .t) (a .mem .now) (c .before .before .before .pre .0) (a .w) (a .t3) (v .r) (v .i) (v .inv .1) (omega arith)
 
 pub tally-spec : {M : Type 1} → statement M
 tally-spec =

@@ -6,8 +6,8 @@ use Rattle.exchange.proofs.statement.on_own_state.Tie as tie
 own-place-requires : tie.Need-own-place-requires
 own-place-requires c κs = (c .before .before .before .before .pre .0 .sound .rep, ready-held (c .before .before .before .before .pre .0))
 
-row-at-requires : tie.Need-row-at-requires
-row-at-requires c κs = search needs
+meta-at-requires : tie.Need-meta-at-requires
+meta-at-requires c κs = search needs
 
 read-u32-requires : tie.Need-read-u32-requires
 read-u32-requires c κs = search needs
@@ -28,7 +28,7 @@ returns : tie.Need-returns
 returns c =
     let a = c .before .before .before .before .before .before .before .before .before .before .args in
     let i = c .before .before .before .before .before .own-place in
-    let e = c .before .before .before .before .row-at in
+    let e = c .before .before .before .before .meta-at in
     let n = c .before .before .before .read-u32 in
     let d = c .before .is-different in
     own-stays (a .c) (a .w) (a .mem .now) (a .room .now) (a .value .now) (c .before .before .before .before .before .before .before .before .before .before .pre .0 .sound) (i .result) (i .ensures) (e .result) (e .ensures) (n .result) (n .ensures) (d .result) (d .ensures) (c .if1 .taken)
@@ -43,7 +43,7 @@ returns-2 : tie.Need-returns-2
 returns-2 c =
     let a = c .before .before .before .before .before .before .before .before .before .before .before .before .args in
     let i = c .before .before .before .before .before .before .before .own-place in
-    let e = c .before .before .before .before .before .before .row-at in
+    let e = c .before .before .before .before .before .before .meta-at in
     let n = c .before .before .before .before .before .read-u32 in
     let d = c .before .before .before .is-different in
     own-again (a .c) (a .w) (a .mem .now) (a .room .now) (a .value .now) (c .before .before .before .before .before .before .before .before .before .before .before .before .pre .0 .sound) (i .result) (i .ensures) (e .result) (e .ensures) (n .result) (n .ensures) (d .result) (d .ensures) (c .before .before .if1 .left)
@@ -54,7 +54,7 @@ on-own-state-spec =
     tie.close
     (tie.spec
     own-place-requires
-    row-at-requires
+    meta-at-requires
     read-u32-requires
     sub-is-different
     part-is-different-start

@@ -1,5 +1,5 @@
 use borrow.Author.Needs.{needs}
-use Rattle.table.proofs.Rows.{stands-of, gap-of}
+use Rattle.table.proofs.Tables.{stands-of, gap-of}
 use Rattle.ledger.proofs.Shown.{shows-small, shows-missing, shows-found}
 use Rattle.ledger.proofs.show.extent.Statement.{statement}
 use Rattle.ledger.proofs.show.extent.Tie as tie
@@ -13,12 +13,12 @@ find-requires c κs = search needs
 enum-known-found : tie.Need-enum-known-found
 enum-known-found c = search needs
 
-row-at-requires : tie.Need-row-at-requires
-row-at-requires c κs =
+meta-at-requires : tie.Need-meta-at-requires
+meta-at-requires c κs =
     let a = c .before .before .before .before .before .before .args in
     let f = c .before .before .before .find in
     let g = c .before .found .given in
-    (c .before .before .before .before .before .before .pre .rows, stands-of (a .s .table) (a .node) (g .0 .0) (f .result) (g .1) (f .ensures) .at)
+    (c .before .before .before .before .before .before .pre .arranged, stands-of (a .s .table) (a .node) (g .0 .0) (f .result) (g .1) (f .ensures) .at)
 
 mul-t10 : tie.Need-mul-t10
 mul-t10 c = search needs
@@ -33,7 +33,7 @@ returns-2 c =
     let g = c .before .before .before .found .given in
     shows-found (a .node) (a .s) (a .mem .now) (c .before .before .before .before .before .before .before .before .pre)
     (c .before .before .before .before .before .before .if1 .left) (g .0 .0)
-    (stands-of (a .s .table) (a .node) (g .0 .0) (f .result) (g .1) (f .ensures)) (c .before .row-at .result) (c .before .row-at .ensures)
+    (stands-of (a .s .table) (a .node) (g .0 .0) (f .result) (g .1) (f .ensures)) (c .before .meta-at .result) (c .before .meta-at .ensures)
 
 returns-3 : tie.Need-returns-3
 returns-3 c =
@@ -50,7 +50,7 @@ extent-spec =
     returns
     find-requires
     enum-known-found
-    row-at-requires
+    meta-at-requires
     mul-t10
     enum-told
     returns-2

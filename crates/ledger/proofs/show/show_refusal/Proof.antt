@@ -1,5 +1,5 @@
 use borrow.Author.Needs.{needs}
-use Rattle.table.proofs.Rows.{stands-of, gap-of}
+use Rattle.table.proofs.Tables.{stands-of, gap-of}
 use Rattle.ledger.proofs.Shown.{show-small, show-found, show-missing}
 use Rattle.ledger.proofs.show.show_refusal.Statement.{statement}
 use Rattle.ledger.proofs.show.show_refusal.Tie as tie

@@ -1,4 +1,4 @@
--- The loop's invariant: the marked rows below place `i` are listed.
+-- The loop's invariant: the marked entries below place `i` are listed.
 use borrow.Author.Needs.{needs}
 use mathlib.Core.Path.{refl}
 use mathlib.Core.Logic.{⊎-elim}
@@ -6,7 +6,7 @@ use Prim.Native.Nat.{_-_, _≤_, _<_}
 use native.Mathlib.Omega.{arith}
 use lib.ListN.{length}
 use Rattle.table.specs.View.{live}
-use Rattle.table.proofs.Rows.{live-length}
+use Rattle.table.proofs.Tables.{live-length}
 use Rattle.reach.proofs.Digests.{read-live}
 use Rattle.ledger.proofs.sum.marked_nodes.Statement.{statement}
 use Rattle.ledger.proofs.sum.marked_nodes.Tie as tie
@@ -24,8 +24,8 @@ loop-holds c = (omega arith, list-start _ _)
 array-read-if1 : tie.Need-array-read-if1 Inv-loop μ-loop
 array-read-if1 c = search needs
 
-row-at-requires : tie.Need-row-at-requires Inv-loop μ-loop
-row-at-requires c κs = (c .before .before .before .pre, search needs)
+meta-at-requires : tie.Need-meta-at-requires Inv-loop μ-loop
+meta-at-requires c κs = (c .before .before .before .pre, search needs)
 
 mul-list : tie.Need-mul-list Inv-loop μ-loop
 mul-list c =
@@ -72,7 +72,7 @@ marked-nodes-spec =
     μ-loop
     loop-holds
     array-read-if1
-    row-at-requires
+    meta-at-requires
     mul-list
     array-write-list
     add-n

@@ -1,7 +1,7 @@
 use borrow.Author.Needs.{needs}
 use native.Mathlib.Omega.{arith}
 use mathlib.Core.Path.{refl}
-use Rattle.node.proofs.Peerings.{midway-holds, midway-row, room-left, added-moved}
+use Rattle.node.proofs.Peerings.{midway-holds, midway-meta, room-left, added-moved}
 use Rattle.node.proofs.peering.add_peer.Statement.{statement}
 use Rattle.node.proofs.peering.add_peer.Tie as tie
 
@@ -24,7 +24,7 @@ publish-with-requires : tie.Need-publish-with-requires
 publish-with-requires c κs =
     let a = c .before .before .before .before .before .before .before .args in
     let p = c .before .before .before .before .before .before .before .pre in
-    (p .0, (midway-holds (a .s) (a .mem .now) (p .1 .0), (midway-row (a .s) (a .mem .now) (p .1 .0), omega (arith, p .1 .1 .1))))
+    (p .0, (midway-holds (a .s) (a .mem .now) (p .1 .0), (midway-meta (a .s) (a .mem .now) (p .1 .0), omega (arith, p .1 .1 .1))))
 
 add-requires : tie.Need-add-requires
 add-requires c κs =

@@ -1,7 +1,7 @@
 use borrow.Author.Needs.{needs}
 use Rattle.node.proofs.Own.{held-found}
 use Rattle.node.proofs.publish.own_place.Statement.{statement}
-use Rattle.table.proofs.Rows.{stands-of, gap-of}
+use Rattle.table.proofs.Tables.{stands-of, gap-of}
 use Rattle.node.proofs.publish.own_place.Tie as tie
 
 find-requires : tie.Need-find-requires

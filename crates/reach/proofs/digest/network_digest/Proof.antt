@@ -9,7 +9,7 @@ use lib.ListN.{length}
 use lib.Seq.{length-take-le}
 use Rattle.sha256.specs.Sha256.{hash16}
 use Rattle.table.specs.View.{live}
-use Rattle.table.proofs.Rows.{live-length}
+use Rattle.table.proofs.Tables.{live-length}
 use Rattle.reach.proofs.Digests.{Gathered, gather-start, gather-stay, gather-on, gather-end, read-live, digest-by}
 
 abbrev Inv-loop : tie.InvT-loop
@@ -27,8 +27,8 @@ array-read-if1 c = search needs
 slice-aggregate-put-part : tie.Need-slice-aggregate-put-part Inv-loop μ-loop
 slice-aggregate-put-part c = search needs
 
-row-at-requires : tie.Need-row-at-requires Inv-loop μ-loop
-row-at-requires c κs = (c .before .before .before .before .pre, search needs)
+meta-at-requires : tie.Need-meta-at-requires Inv-loop μ-loop
+meta-at-requires c κs = (c .before .before .before .before .pre, search needs)
 
 put-part-requires : tie.Need-put-part-requires Inv-loop μ-loop
 put-part-requires c κs = (omega (arith, c .before .before .before .before .loop .inv .1 .size, c .before .before .before .before .loop .inv .1 .most, c .before .before .before .before .before .pre .most), search needs)
@@ -80,7 +80,7 @@ network-digest-spec =
     loop-holds
     array-read-if1
     slice-aggregate-put-part
-    row-at-requires
+    meta-at-requires
     put-part-requires
     add-n
     add-i

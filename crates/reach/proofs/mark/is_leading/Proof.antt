@@ -1,10 +1,10 @@
 use Rattle.reach.proofs.mark.is_leading.Statement.{statement}
 use Rattle.reach.proofs.mark.is_leading.Tie as tie
 use mathlib.Core.Path.{sym}
-use Rattle.reach.proofs.Nodes.{row-age, front-asks, old-leads, young-leads}
+use Rattle.reach.proofs.Nodes.{meta-age, front-asks, old-leads, young-leads}
 
 age-at-requires : tie.Need-age-at-requires
-age-at-requires c κs = row-age _ _ _ (c .before .pre .0)
+age-at-requires c κs = meta-age _ _ _ (c .before .pre .0)
 
 returns : tie.Need-returns
 returns c =

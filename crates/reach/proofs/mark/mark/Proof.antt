@@ -18,14 +18,14 @@ returns : tie.Need-returns
 returns c =
     let a = c .before .before .before .before .args in
     let p = c .before .before .before .before .pre in
-    never-missing (a .t) (a .mem .now) (p .0 .kept .rows) (a .own) (c .before .before .find .result) (c .before .before .find .ensures) (c .enum-told .given .0 .0) (c .enum-told .given .1) (p .1)
+    never-missing (a .t) (a .mem .now) (p .0 .kept .arranged) (a .own) (c .before .before .find .result) (c .before .before .find .ensures) (c .enum-told .given .0 .0) (c .enum-told .given .1) (p .1)
 
 array-write-first : tie.Need-array-write-first
 array-write-first c =
     let a = c .before .before .before .before .before .args in
     let p = c .before .before .before .before .before .pre in
     let q = c .before .found .given in
-    omega (arith, found-at (a .t) (a .mem .now) (p .0 .kept .rows) (a .own) (c .before .before .before .find .result) (c .before .before .before .find .ensures) (q .0 .0) (q .1) .at, p .0 .kept .rows .most)
+    omega (arith, found-at (a .t) (a .mem .now) (p .0 .kept .arranged) (a .own) (c .before .before .before .find .result) (c .before .before .before .find .ensures) (q .0 .0) (q .1) .at, p .0 .kept .arranged .most)
 
 spread-requires : tie.Need-spread-requires
 spread-requires c κs = search needs
@@ -35,8 +35,8 @@ returns-2 c =
     let a = c .before .before .before .before .before .before .args in
     let p = c .before .before .before .before .before .before .pre in
     let q = c .before .before .found .given in
-    mark-by (a .own) (a .clock) (a .t) (a .mem .now) (p .0 .kept .rows) (q .0 .0)
-    (found-at (a .t) (a .mem .now) (p .0 .kept .rows) (a .own) (c .before .before .before .before .find .result) (c .before .before .before .before .find .ensures) (q .0 .0) (q .1)) _ (c .spread .result) refl (c .spread .ensures)
+    mark-by (a .own) (a .clock) (a .t) (a .mem .now) (p .0 .kept .arranged) (q .0 .0)
+    (found-at (a .t) (a .mem .now) (p .0 .kept .arranged) (a .own) (c .before .before .before .before .find .result) (c .before .before .before .before .find .ensures) (q .0 .0) (q .1)) _ (c .spread .result) refl (c .spread .ensures)
 
 pub mark-spec : {M : Type 1} → statement M
 mark-spec =

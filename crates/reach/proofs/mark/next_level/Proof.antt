@@ -6,7 +6,7 @@ use Prim.Native.Nat.{_-_, _≤_}
 use mathlib.Core.Path.{sym, _∙_}
 use mathlib.Core.Logic.{⊎-elim}
 use Rattle.table.specs.View.{view}
-use Rattle.table.proofs.Rows.{view-length}
+use Rattle.table.proofs.Tables.{view-length}
 use Rattle.reach.proofs.Nodes.{few-nodes, held, legible-at, leads-at}
 use Rattle.reach.proofs.Nexts.{Tried, Trying, tried-none, tried-all, tried-out, tried-in, tried-on, trying-met, trying-unled, trying-led}
 
@@ -38,7 +38,7 @@ element-copy-out-e c = search needs
 loop2-holds : tie.Need-loop2-holds Inv-loop2 μ-loop2 Inv-loop μ-loop
 loop2-holds c =
     let a = c .before .before .before .before .before .args in
-    (omega arith, tried-in _ _ _ _ (c .before .before .before .loop .r) (held (a .t1) (a .mem .now) (c .before .before .before .before .before .pre .kept .rows) (c .before .before .before .loop .r) (c .before .before .loop-test .taken)) _ (c .before .before .before .loop .inv .1))
+    (omega arith, tried-in _ _ _ _ (c .before .before .before .loop .r) (held (a .t1) (a .mem .now) (c .before .before .before .before .before .pre .kept .arranged) (c .before .before .before .loop .r) (c .before .before .loop-test .taken)) _ (c .before .before .before .loop .inv .1))
 
 array-read-if2 : tie.Need-array-read-if2 Inv-loop2 μ-loop2 Inv-loop μ-loop
 array-read-if2 c = search needs
@@ -68,13 +68,13 @@ loop2-again c =
     let g = c .before .before .before .before .before .before .before .before .pre in
     let r = c .before .before .before .before .before .before .loop .r in
     let v = c .before .before .loop2 in
-    let p = held (a .t1) (a .mem .now) (g .kept .rows) r (c .before .before .before .before .before .loop-test .taken) in
-    let q = held (a .t1) (a .mem .now) (g .kept .rows) (v .v) (c .before .loop2-test .taken) in
+    let p = held (a .t1) (a .mem .now) (g .kept .arranged) r (c .before .before .before .before .before .loop-test .taken) in
+    let q = held (a .t1) (a .mem .now) (g .kept .arranged) (v .v) (c .before .loop2-test .taken) in
     let at = leads-at (a .clock) (a .t1) (a .mem .now) g r (v .v) (c .before .before .before .before .before .loop-test .taken) (c .before .loop2-test .taken) in (
       omega arith,
       ⊎-elim
           (λ b. rw (b .4)
-          (trying-led _ _ _ _ r p (c .before .before .before .before .if1 .taken) (v .v) q (v .next) (v .inv .1) (few-nodes (a .t1) (a .mem .now) (g .kept .rows)) (b .0 .taken) (sym at ∙ sym (b .2 .ensures) ∙ b .3 .taken)))
+          (trying-led _ _ _ _ r p (c .before .before .before .before .if1 .taken) (v .v) q (v .next) (v .inv .1) (few-nodes (a .t1) (a .mem .now) (g .kept .arranged)) (b .0 .taken) (sym at ∙ sym (b .2 .ensures) ∙ b .3 .taken)))
           (⊎-elim
           (λ b. rw (b .4) (trying-unled _ _ _ _ r p (c .before .before .before .before .if1 .taken) (v .v) q (v .next) (v .inv .1) (sym at ∙ sym (b .2 .ensures) ∙ b .3 .left)))
           (λ b. rw (b .1) (trying-met _ _ _ _ r p (c .before .before .before .before .if1 .taken) (v .v) q (v .next) (v .inv .1) (b .0 .left))))
@@ -90,7 +90,7 @@ loop-less c = search needs
 loop-again : tie.Need-loop-again Inv-loop2 μ-loop2 Inv-loop μ-loop
 loop-again c =
     let a = c .before .before .before .before .args in
-    let k = c .before .before .before .before .pre .kept .rows in
+    let k = c .before .before .before .before .pre .kept .arranged in
     let v = c .before .before .loop in
     let p = held (a .t1) (a .mem .now) k (v .r) (c .before .loop-test .taken) in (
       omega arith,
@@ -103,7 +103,7 @@ loop-again c =
 returns : tie.Need-returns Inv-loop2 μ-loop2 Inv-loop μ-loop
 returns c =
     let a = c .before .before .before .args in
-    tried-all _ _ _ _ (c .before .loop .r) _ (c .before .loop .inv .1) (omega (arith, c .loop-test .left, view-length (a .t1) (c .before .before .before .pre .kept .rows) (a .mem .now)))
+    tried-all _ _ _ _ (c .before .loop .r) _ (c .before .loop .inv .1) (omega (arith, c .loop-test .left, view-length (a .t1) (c .before .before .before .pre .kept .arranged) (a .mem .now)))
 
 pub next-level-spec : {M : Type 1} → statement M
 next-level-spec =

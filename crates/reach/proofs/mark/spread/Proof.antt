@@ -17,7 +17,7 @@ abbrev μ-loop : tie.MeasureT-loop
 loop-holds : tie.Need-loop-holds Inv-loop μ-loop
 loop-holds c =
     let a = c .before .args in
-    wave-start (a .clock) (view (a .t) (a .mem .now)) (few-nodes (a .t) (a .mem .now) (c .before .pre .kept .rows)) (a .first) (search needs)
+    wave-start (a .clock) (view (a .t) (a .mem .now)) (few-nodes (a .t) (a .mem .now) (c .before .pre .kept .arranged)) (a .first) (search needs)
 
 next-level-requires : tie.Need-next-level-requires Inv-loop μ-loop
 next-level-requires c κs = c .before .before .before .before .before .pre
@@ -30,7 +30,7 @@ returns c =
     let a = c .before .before .before .before .before .before .before .before .args in
     let v = c .before .before .before .before .before .before .loop in
     let n = c .before .before .next-level in
-    wave-stop (a .clock) (view (a .t) (a .mem .now)) (few-nodes (a .t) (a .mem .now) (c .before .before .before .before .before .before .before .before .pre .kept .rows)) (a .first) (v .k) (v .w) (n .result) (v .inv) (n .ensures) (c .before .is-empty .ensures) (c .if1 .taken)
+    wave-stop (a .clock) (view (a .t) (a .mem .now)) (few-nodes (a .t) (a .mem .now) (c .before .before .before .before .before .before .before .before .pre .kept .arranged)) (a .first) (v .k) (v .w) (n .result) (v .inv) (n .ensures) (c .before .is-empty .ensures) (c .if1 .taken)
 
 onward-requires : tie.Need-onward-requires Inv-loop μ-loop
 onward-requires c κs = c .before .before .next-level .ensures .wide
@@ -46,13 +46,13 @@ loop-again c =
     let a = c .before .before .before .before .before .before .before .before .before .args in
     let v = c .before .before .before .before .before .before .before .loop in
     let n = c .before .before .before .next-level in
-    wave-on (a .clock) (view (a .t) (a .mem .now)) (few-nodes (a .t) (a .mem .now) (c .before .before .before .before .before .before .before .before .before .pre .kept .rows)) (a .first) (v .k) (v .w) (n .result) (v .inv) (n .ensures) (c .before .before .is-empty .ensures) (c .before .if1 .left) (c .onward .result) (omega arith) (c .onward .ensures)
+    wave-on (a .clock) (view (a .t) (a .mem .now)) (few-nodes (a .t) (a .mem .now) (c .before .before .before .before .before .before .before .before .before .pre .kept .arranged)) (a .first) (v .k) (v .w) (n .result) (v .inv) (n .ensures) (c .before .before .is-empty .ensures) (c .before .if1 .left) (c .onward .result) (omega arith) (c .onward .ensures)
 
 returns-2 : tie.Need-returns-2 Inv-loop μ-loop
 returns-2 c =
     let a = c .before .before .before .before .args in
     let v = c .before .before .loop in
-    wave-end (a .clock) (view (a .t) (a .mem .now)) (few-nodes (a .t) (a .mem .now) (c .before .before .before .before .pre .kept .rows)) (a .first) (v .k) (v .w) (v .inv) (omega arith)
+    wave-end (a .clock) (view (a .t) (a .mem .now)) (few-nodes (a .t) (a .mem .now) (c .before .before .before .before .pre .kept .arranged)) (a .first) (v .k) (v .w) (v .inv) (omega arith)
 
 pub spread-spec : {M : Type 1} → statement M
 spread-spec =

@@ -2,7 +2,7 @@ use borrow.Author.Needs.{needs}
 use Rattle.reply.proofs.request.on_request_node.Statement.{statement}
 use Rattle.reply.proofs.request.on_request_node.Tie as tie
 use native.Mathlib.Omega.{arith}
-use Rattle.table.proofs.Rows.{stands-of, gap-of}
+use Rattle.table.proofs.Tables.{stands-of, gap-of}
 use Rattle.reply.proofs.Steps.{ready-markable, refreshed-sound, refreshed-ready, refreshed-then}
 use Rattle.reply.proofs.Answers.{unknown-asked, unreachable-asked, reached-asked}
 
@@ -10,7 +10,7 @@ refreshed-requires : tie.Need-refreshed-requires
 refreshed-requires c κs = ready-markable (c .before .before .pre)
 
 find-requires : tie.Need-find-requires
-find-requires c κs = refreshed-ready (c .refreshed .ensures) (c .before .before .before .args .room .now) (c .before .before .before .pre) .sound .rep .table .rows
+find-requires c κs = refreshed-ready (c .refreshed .ensures) (c .before .before .before .args .room .now) (c .before .before .before .pre) .sound .rep .table .arranged
 
 enum-known-found : tie.Need-enum-known-found
 enum-known-found c = search needs
@@ -31,7 +31,7 @@ array-read-if1 : tie.Need-array-read-if1
 array-read-if1 c =
     let u = c .before .before .before .before .before .refreshed in
     let q = c .before .before .found .given in
-    omega (arith, stands-of (u .result .state .table) (c .before .before .before .before .before .before .before .before .args .node) (q .0 .0) (c .before .before .before .before .find .result) (q .1) (c .before .before .before .before .find .ensures) .at, refreshed-ready (u .ensures) (c .before .before .before .before .before .before .before .before .args .room .now) (c .before .before .before .before .before .before .before .before .pre) .sound .rep .table .rows .most)
+    omega (arith, stands-of (u .result .state .table) (c .before .before .before .before .before .before .before .before .args .node) (q .0 .0) (c .before .before .before .before .find .result) (q .1) (c .before .before .before .before .find .ensures) .at, refreshed-ready (u .ensures) (c .before .before .before .before .before .before .before .before .args .room .now) (c .before .before .before .before .before .before .before .before .pre) .sound .rep .table .arranged .most)
 
 reply-whole-requires : tie.Need-reply-whole-requires
 reply-whole-requires c κs =

@@ -17,18 +17,18 @@ abbrev μ-loop : tie.MeasureT-loop
 μ-loop mem room₀ c marks t count v₀ i₀ room v i = count - i
 
 loop-holds : tie.Need-loop-holds Inv-loop μ-loop
-loop-holds c = let a = c .before .before .before .args in list-start (a .c) (a .w .state .table) (a .t5) (a .w) (a .mem .now) (a .room .now) (c .before .before .before .pre .1 .0 .kept .rows) (c .before .before .before .pre .0)
+loop-holds c = let a = c .before .before .before .args in list-start (a .c) (a .w .state .table) (a .t5) (a .w) (a .mem .now) (a .room .now) (c .before .before .before .pre .1 .0 .kept .arranged) (c .before .before .before .pre .0)
 
 array-read-if1 : tie.Need-array-read-if1 Inv-loop μ-loop
-array-read-if1 c = omega (arith, c .before .before .before .before .before .pre .1 .1 .0 .wide, c .before .before .before .before .before .pre .1 .0 .kept .rows .most)
+array-read-if1 c = omega (arith, c .before .before .before .before .before .pre .1 .1 .0 .wide, c .before .before .before .before .before .pre .1 .0 .kept .arranged .most)
 
-row-at-requires : tie.Need-row-at-requires Inv-loop μ-loop
-row-at-requires c κs = (c .before .before .before .before .before .before .pre .1 .0 .kept .rows, search needs)
+meta-at-requires : tie.Need-meta-at-requires Inv-loop μ-loop
+meta-at-requires c κs = (c .before .before .before .before .before .before .pre .1 .0 .kept .arranged, search needs)
 
-front-of-requires : tie.Need-front-of-requires Inv-loop μ-loop
-front-of-requires c κs =
+node-state-front-requires : tie.Need-node-state-front-requires Inv-loop μ-loop
+node-state-front-requires c κs =
     let a = c .before .before .before .before .before .before .before .args in
-    front-fits (a .c .clock) (a .w .state .table) (a .mem .now) (c .before .before .before .before .before .before .before .pre .1 .0) (c .before .before .before .loop .i) (omega arith) (c .row-at .result) (c .row-at .ensures) 0 (omega arith)
+    front-fits (a .c .clock) (a .w .state .table) (a .mem .now) (c .before .before .before .before .before .before .before .pre .1 .0) (c .before .before .before .loop .i) (omega arith) (c .meta-at .result) (c .meta-at .ensures) 0 (omega arith)
 
 slice-aggregate-reply : tie.Need-slice-aggregate-reply Inv-loop μ-loop
 slice-aggregate-reply c = search needs
@@ -49,8 +49,8 @@ reply-requires c κs =
     let l = c .before .before .before .before .before .before .before .loop in (
       l .inv .stepped .sound,
       (
-        omega (arith, l .inv .stepped .omitted, l .inv .within, p .1 .0 .kept .rows .most, p .1 .1 .1),
-        front-room (a .c .clock) (a .w .state .table) (a .mem .now) (p .1 .0) (l .i) (omega arith) (c .before .before .before .before .row-at .result) (c .before .before .before .before .row-at .ensures) (c .before .before .before .front-of .result) [] 0 (c .before .before .before .front-of .ensures) (omega arith),
+        omega (arith, l .inv .stepped .omitted, l .inv .within, p .1 .0 .kept .arranged .most, p .1 .1 .1),
+        front-room (a .c .clock) (a .w .state .table) (a .mem .now) (p .1 .0) (l .i) (omega arith) (c .before .before .before .before .meta-at .result) (c .before .before .before .before .meta-at .ensures) (c .before .before .before .node-state-front .result) [] 0 (c .before .before .before .node-state-front .ensures) (omega arith),
       ),
     )
 
@@ -66,9 +66,9 @@ loop-again c =
     let p = c .before .before .before .before .before .before .pre in
     let l = c .before .before .loop in
     ⊎-elim
-    (λ b. rw (b .9, b .10) (list-on (a .c) (a .w .state .table) (a .t5) (a .w) (a .mem .now) (a .room .now) (p .1 .0 .kept .rows) (l .i) (l .v) (l .room) (l .inv) (omega arith) (b .0 .taken) _ _
+    (λ b. rw (b .9, b .10) (list-on (a .c) (a .w .state .table) (a .t5) (a .w) (a .mem .now) (a .room .now) (p .1 .0 .kept .arranged) (l .i) (l .v) (l .room) (l .inv) (omega arith) (b .0 .taken) _ _
     (replied-as (b .6 .ensures) (front-short (a .c .clock) (a .w .state .table) (a .mem .now) (p .1 .0) (l .i) (omega arith) (b .1 .result) (b .1 .ensures) _ (b .2 .ensures)))))
-    (λ b. rw (b .1, b .2) (list-stay (a .c) (a .w .state .table) (a .t5) (a .w) (a .mem .now) (a .room .now) (p .1 .0 .kept .rows) (l .i) (l .v) (l .room) (l .inv) (omega arith) (b .0 .left)))
+    (λ b. rw (b .1, b .2) (list-stay (a .c) (a .w .state .table) (a .t5) (a .w) (a .mem .now) (a .room .now) (p .1 .0 .kept .arranged) (l .i) (l .v) (l .room) (l .inv) (omega arith) (b .0 .left)))
     (c .if1 .came)
 
 same-length : tie.Need-same-length Inv-loop μ-loop
@@ -79,7 +79,7 @@ returns c =
     let a = c .before .before .before .before .before .args in
     let p = c .before .before .before .before .before .pre in
     let l = c .before .loop in
-    list-end (a .c) (a .w .state .table) (a .t5) (a .w) (a .mem .now) (a .room .now) (p .1 .0 .kept .rows) (l .i) (l .v) (l .room) (l .inv) (omega arith) refl (p .1 .1 .0)
+    list-end (a .c) (a .w .state .table) (a .t5) (a .w) (a .mem .now) (a .room .now) (p .1 .0 .kept .arranged) (l .i) (l .v) (l .room) (l .inv) (omega arith) refl (p .1 .1 .0)
 
 pub reply-states-spec : {M : Type 1} → statement M
 reply-states-spec =
@@ -89,8 +89,8 @@ reply-states-spec =
     μ-loop
     loop-holds
     array-read-if1
-    row-at-requires
-    front-of-requires
+    meta-at-requires
+    node-state-front-requires
     slice-aggregate-reply
     sub-reply
     part-reply-start

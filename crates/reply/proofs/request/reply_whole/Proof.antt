@@ -7,13 +7,13 @@ use Rattle.reply.proofs.Replies.{replied-as}
 use Rattle.reply.proofs.States.{front-fits, front-whole, front-room, data-room}
 use Rattle.reply.proofs.Answers.{markable-readable}
 
-row-at-requires : tie.Need-row-at-requires
-row-at-requires c κs = search needs
+meta-at-requires : tie.Need-meta-at-requires
+meta-at-requires c κs = search needs
 
-front-of-requires : tie.Need-front-of-requires
-front-of-requires c κs =
+node-state-front-requires : tie.Need-node-state-front-requires
+node-state-front-requires c κs =
     let a = c .before .before .before .before .args in
-    front-fits (a .c .clock) (a .w .state .table) (a .mem .now) (markable-readable (ready-markable (c .before .before .before .before .pre .0))) (a .i) (c .before .before .before .before .pre .1) (c .row-at .result) (c .row-at .ensures) (c .row-at .result .len) (c .row-at .ensures .short)
+    front-fits (a .c .clock) (a .w .state .table) (a .mem .now) (markable-readable (ready-markable (c .before .before .before .before .pre .0))) (a .i) (c .before .before .before .before .pre .1) (c .meta-at .result) (c .meta-at .ensures) (c .meta-at .result .len) (c .meta-at .ensures .short)
 
 slice-aggregate-reply : tie.Need-slice-aggregate-reply
 slice-aggregate-reply c = search needs
@@ -29,8 +29,8 @@ reply-requires c κs =
       p .0 .sound,
       (
         omega (arith, p .0 .omitted),
-        front-room (a .c .clock) (a .w .state .table) (a .mem .now) g (a .i) (p .1) (c .before .before .before .before .row-at .result) (c .before .before .before .before .row-at .ensures) (c .before .before .before .front-of .result) (c .data-of .result .now) (c .before .before .before .before .row-at .result .len) (c .before .before .before .front-of .ensures)
-            (data-room (a .c .clock) (a .w .state .table) (a .mem .now) g (a .i) (p .1) (c .before .before .before .before .row-at .result) (c .before .before .before .before .row-at .ensures) (c .data-of .result .now) (c .data-of .ensures .0)),
+        front-room (a .c .clock) (a .w .state .table) (a .mem .now) g (a .i) (p .1) (c .before .before .before .before .meta-at .result) (c .before .before .before .before .meta-at .ensures) (c .before .before .before .node-state-front .result) (c .data-of .result .now) (c .before .before .before .before .meta-at .result .len) (c .before .before .before .node-state-front .ensures)
+            (data-room (a .c .clock) (a .w .state .table) (a .mem .now) g (a .i) (p .1) (c .before .before .before .before .meta-at .result) (c .before .before .before .before .meta-at .ensures) (c .data-of .result .now) (c .data-of .ensures .0)),
       ),
     )
 
@@ -41,14 +41,14 @@ returns : tie.Need-returns
 returns c =
     let a = c .before .before .before .before .before .before .before .before .before .before .before .args in
     replied-as (c .before .before .reply .ensures)
-    (front-whole (a .c .clock) (a .w .state .table) (a .mem .now) (markable-readable (ready-markable (c .before .before .before .before .before .before .before .before .before .before .before .pre .0))) (a .i) (c .before .before .before .before .before .before .before .before .before .before .before .pre .1) (c .before .before .before .before .before .before .before .row-at .result) (c .before .before .before .before .before .before .before .row-at .ensures) _ _ (c .before .before .before .before .before .before .front-of .ensures) (c .before .before .before .data-of .ensures .0))
+    (front-whole (a .c .clock) (a .w .state .table) (a .mem .now) (markable-readable (ready-markable (c .before .before .before .before .before .before .before .before .before .before .before .pre .0))) (a .i) (c .before .before .before .before .before .before .before .before .before .before .before .pre .1) (c .before .before .before .before .before .before .before .meta-at .result) (c .before .before .before .before .before .before .before .meta-at .ensures) _ _ (c .before .before .before .before .before .before .node-state-front .ensures) (c .before .before .before .data-of .ensures .0))
 
 pub reply-whole-spec : {M : Type 1} → statement M
 reply-whole-spec =
     tie.close
     (tie.spec
-    row-at-requires
-    front-of-requires
+    meta-at-requires
+    node-state-front-requires
     slice-aggregate-reply
     data-of-requires
     reply-requires

@@ -12,8 +12,8 @@ abbrev μ-loop : tie.MeasureT-loop
 loop-holds : tie.Need-loop-holds Inv-loop μ-loop
 loop-holds c = search needs
 
-row-at-requires : tie.Need-row-at-requires Inv-loop μ-loop
-row-at-requires c κs = search needs
+meta-at-requires : tie.Need-meta-at-requires Inv-loop μ-loop
+meta-at-requires c κs = search needs
 
 node-requires : tie.Need-node-requires Inv-loop μ-loop
 node-requires c κs = search needs
@@ -37,7 +37,7 @@ nodes-spec =
     Inv-loop
     μ-loop
     loop-holds
-    row-at-requires
+    meta-at-requires
     node-requires
     add-i
     loop-less

@@ -5,7 +5,7 @@ use Prim.Native.Nat.{_+_, _-_}
 use native.Mathlib.Omega.{arith}
 use lib.ListN.{length}
 use Rattle.base.proofs.Written.{part-length}
-use Rattle.snapshot.specs.Answers.{Stands}
+use Rattle.snapshot.specs.Answers.{EntryAt}
 use Rattle.snapshot.proofs.Loading.{entry-told, no-entry, Filling, filling-start, next-gap, filling-next, never-stops, filled}
 use Rattle.snapshot.proofs.load.fill.Statement.{statement}
 use Rattle.snapshot.proofs.load.fill.Tie as tie
@@ -18,7 +18,7 @@ abbrev μ-loop : tie.MeasureT-loop
 
 -- the entry, once it is read
 entry-got : (c : tie.After-e Inv-loop μ-loop)
-    → Stands (c .before .before .before .before .before .before .before .before .args .s .now) (c .before .before .before .before .loop .place) (c .before .before .before .before .loop .low) (c .e .given .0 .0) (c .e .given .0 .1 .0) (c .e .given .0 .1 .1 .0) (c .e .given .0 .1 .1 .1 .0) (c .e .given .0 .1 .1 .1 .1 .0)
+    → EntryAt (c .before .before .before .before .before .before .before .before .args .s .now) (c .before .before .before .before .loop .place) (c .before .before .before .before .loop .low) (c .e .given .0 .0) (c .e .given .0 .1 .0) (c .e .given .0 .1 .1 .0) (c .e .given .0 .1 .1 .1 .0) (c .e .given .0 .1 .1 .1 .1 .0)
 entry-got c =
     let l = c .before .before .before .before .loop in
     let g = c .e .given .0 in

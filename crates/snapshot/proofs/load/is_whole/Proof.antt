@@ -3,7 +3,7 @@ use borrow.Author.Needs.{needs}
 use mathlib.Core.Logic.{⊎-elim}
 use Prim.Native.Nat.{_-_}
 use native.Mathlib.Omega.{arith}
-use Rattle.snapshot.specs.Answers.{Stands}
+use Rattle.snapshot.specs.Answers.{EntryAt}
 use Rattle.snapshot.proofs.Loading.{entry-told, no-entry, Judging, judging-start, judged-stops, judged-more, judged-end, judging-own, judging-other}
 use Rattle.snapshot.proofs.load.is_whole.Statement.{statement}
 use Rattle.snapshot.proofs.load.is_whole.Tie as tie
@@ -16,7 +16,7 @@ abbrev μ-loop : tie.MeasureT-loop
 
 -- the entry, once it is read
 entry-got : (c : tie.After-e Inv-loop μ-loop)
-    → Stands (c .before .before .before .before .before .before .args .s .now) (c .before .before .before .before .loop .place) (c .before .before .before .before .loop .low) (c .e .given .0 .0) (c .e .given .0 .1 .0) (c .e .given .0 .1 .1 .0) (c .e .given .0 .1 .1 .1 .0) (c .e .given .0 .1 .1 .1 .1 .0)
+    → EntryAt (c .before .before .before .before .before .before .args .s .now) (c .before .before .before .before .loop .place) (c .before .before .before .before .loop .low) (c .e .given .0 .0) (c .e .given .0 .1 .0) (c .e .given .0 .1 .1 .0) (c .e .given .0 .1 .1 .1 .0) (c .e .given .0 .1 .1 .1 .1 .0)
 entry-got c =
     let l = c .before .before .before .before .loop in
     let g = c .e .given .0 in

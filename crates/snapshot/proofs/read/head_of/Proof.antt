@@ -1,7 +1,8 @@
 -- `head_of` meets its contract: each answer of the group reader leads one number on. Assumes nothing.
 use borrow.Author.Needs.{needs}
 use native.Mathlib.Omega.{arith}
-use Rattle.model.specs.Figures.{mostNodes, wide}
+use Rattle.base.specs.Bytes.{mostU32}
+use Rattle.model.specs.Figures.{mostNodes}
 use Rattle.snapshot.proofs.Reading.{Got, value, unread, edition-unread, edition-wrong, own-unread, count-unread, count-zero, head-stands}
 use Rattle.snapshot.proofs.read.head_of.Statement.{statement}
 use Rattle.snapshot.proofs.read.head_of.Tie as tie
@@ -12,10 +13,10 @@ edition-got c =
     let g = c .first .given in
     value (c .before .before .before .before .args .s .now) 0 1 (c .before .before .read-groups .result) (c .before .before .read-groups .ensures) (g .0 .0) (g .0 .1 .0) (g .1)
 
-own-got : (c : tie.After-second) → Got (c .before .before .before .before .before .before .before .before .before .args .s .now) (c .before .before .before .before .before .first .given .0 .1 .0) wide (c .second .given .0 .0) (c .second .given .0 .1 .0)
+own-got : (c : tie.After-second) → Got (c .before .before .before .before .before .before .before .before .before .args .s .now) (c .before .before .before .before .before .first .given .0 .1 .0) mostU32 (c .second .given .0 .0) (c .second .given .0 .1 .0)
 own-got c =
     let g = c .second .given in
-    value (c .before .before .before .before .before .before .before .before .before .args .s .now) (c .before .before .before .before .before .first .given .0 .1 .0) wide (c .before .before .read-groups2 .result) (c .before .before .read-groups2 .ensures) (g .0 .0) (g .0 .1 .0) (g .1)
+    value (c .before .before .before .before .before .before .before .before .before .args .s .now) (c .before .before .before .before .before .first .given .0 .1 .0) mostU32 (c .before .before .read-groups2 .result) (c .before .before .read-groups2 .ensures) (g .0 .0) (g .0 .1 .0) (g .1)
 
 count-got : (c : tie.After-third) → Got (c .before .before .before .before .before .before .before .before .before .before .before .before .before .args .s .now) (c .before .before .before .before .second .given .0 .1 .0) mostNodes (c .third .given .0 .0) (c .third .given .0 .1 .0)
 count-got c =
@@ -54,7 +55,7 @@ returns-3 : tie.Need-returns-3
 returns-3 c =
     let s = c .before .before .before .before .before .before .before .before .before .args .s .now in
     let n = c .before .before .before .before .before .first .given .0 in
-    own-unread s (n .0) (n .1 .0) (edition-got (c .before .before .before .before .before)) (c .before .before .before .if1 .left) (unread s (n .1 .0) wide (c .before .before .read-groups2 .result) (c .before .before .read-groups2 .ensures) (c .enum-told2 .given .1))
+    own-unread s (n .0) (n .1 .0) (edition-got (c .before .before .before .before .before)) (c .before .before .before .if1 .left) (unread s (n .1 .0) mostU32 (c .before .before .read-groups2 .result) (c .before .before .read-groups2 .ensures) (c .enum-told2 .given .1))
 
 read-groups-requires-3 : tie.Need-read-groups-requires-3
 read-groups-requires-3 c κs = (own-got (c .before) .within, omega arith)

@@ -1,21 +1,22 @@
 -- `numbers_at` meets its contract: each answer of the group reader leads one number on. Assumes nothing.
 use borrow.Author.Needs.{needs}
 use native.Mathlib.Omega.{arith}
-use Rattle.model.specs.Figures.{mostAge, wide}
+use Rattle.base.specs.Bytes.{mostU32}
+use Rattle.model.specs.Figures.{mostAge}
 use Rattle.snapshot.proofs.Reading.{Got, value, unread, node-unread, node-below, seq-unread, age-unread, numbered}
 use Rattle.snapshot.proofs.read.numbers_at.Statement.{statement}
 use Rattle.snapshot.proofs.read.numbers_at.Tie as tie
 
 -- the three numbers, once they are read
-node-got : (c : tie.After-first) → Got (c .before .before .before .before .args .s .now) (c .before .before .before .before .args .at) wide (c .first .given .0 .0) (c .first .given .0 .1 .0)
+node-got : (c : tie.After-first) → Got (c .before .before .before .before .args .s .now) (c .before .before .before .before .args .at) mostU32 (c .first .given .0 .0) (c .first .given .0 .1 .0)
 node-got c =
     let g = c .first .given in
-    value (c .before .before .before .before .args .s .now) (c .before .before .before .before .args .at) wide (c .before .before .read-groups .result) (c .before .before .read-groups .ensures) (g .0 .0) (g .0 .1 .0) (g .1)
+    value (c .before .before .before .before .args .s .now) (c .before .before .before .before .args .at) mostU32 (c .before .before .read-groups .result) (c .before .before .read-groups .ensures) (g .0 .0) (g .0 .1 .0) (g .1)
 
-seq-got : (c : tie.After-second) → Got (c .before .before .before .before .before .before .before .before .before .args .s .now) (c .before .before .before .before .before .first .given .0 .1 .0) wide (c .second .given .0 .0) (c .second .given .0 .1 .0)
+seq-got : (c : tie.After-second) → Got (c .before .before .before .before .before .before .before .before .before .args .s .now) (c .before .before .before .before .before .first .given .0 .1 .0) mostU32 (c .second .given .0 .0) (c .second .given .0 .1 .0)
 seq-got c =
     let g = c .second .given in
-    value (c .before .before .before .before .before .before .before .before .before .args .s .now) (c .before .before .before .before .before .first .given .0 .1 .0) wide (c .before .before .read-groups2 .result) (c .before .before .read-groups2 .ensures) (g .0 .0) (g .0 .1 .0) (g .1)
+    value (c .before .before .before .before .before .before .before .before .before .args .s .now) (c .before .before .before .before .before .first .given .0 .1 .0) mostU32 (c .before .before .read-groups2 .result) (c .before .before .read-groups2 .ensures) (g .0 .0) (g .0 .1 .0) (g .1)
 
 age-got : (c : tie.After-third) → Got (c .before .before .before .before .before .before .before .before .before .before .before .before .before .args .s .now) (c .before .before .before .before .second .given .0 .1 .0) mostAge (c .third .given .0 .0) (c .third .given .0 .1 .0)
 age-got c =
@@ -34,7 +35,7 @@ enum-told c = search needs
 returns : tie.Need-returns
 returns c =
     let a = c .before .before .before .before .args in
-    node-unread (a .s .now) (a .at) (a .low) (unread (a .s .now) (a .at) wide (c .before .before .read-groups .result) (c .before .before .read-groups .ensures) (c .enum-told .given .1))
+    node-unread (a .s .now) (a .at) (a .low) (unread (a .s .now) (a .at) mostU32 (c .before .before .read-groups .result) (c .before .before .read-groups .ensures) (c .enum-told .given .1))
 
 returns-2 : tie.Need-returns-2
 returns-2 c =
@@ -55,7 +56,7 @@ returns-3 : tie.Need-returns-3
 returns-3 c =
     let a = c .before .before .before .before .before .before .before .before .before .args in
     let n = c .before .before .before .before .before .first .given .0 in
-    seq-unread (a .s .now) (a .at) (a .low) (n .0) (n .1 .0) (node-got (c .before .before .before .before .before)) (unread (a .s .now) (n .1 .0) wide (c .before .before .read-groups2 .result) (c .before .before .read-groups2 .ensures) (c .enum-told2 .given .1))
+    seq-unread (a .s .now) (a .at) (a .low) (n .0) (n .1 .0) (node-got (c .before .before .before .before .before)) (unread (a .s .now) (n .1 .0) mostU32 (c .before .before .read-groups2 .result) (c .before .before .read-groups2 .ensures) (c .enum-told2 .given .1))
 
 read-groups-requires-3 : tie.Need-read-groups-requires-3
 read-groups-requires-3 c κs = (seq-got (c .before) .within, omega arith)

@@ -9,8 +9,8 @@ use Rattle.wire.proofs.Varints.{groups-length}
 use Rattle.model.specs.Figures.{snapshotBytes}
 use Rattle.model.proofs.Snapshots.{savedHead, headBytes, head-short}
 use Rattle.table.specs.View.{view}
-use Rattle.table.proofs.Rows.{view-length}
-use Rattle.snapshot.proofs.Saving.{row-fit, row-fits, row-size, entry-seen, Through, through-start, through-room, through-next, head-end, head-put, all-saved}
+use Rattle.table.proofs.Tables.{view-length}
+use Rattle.snapshot.proofs.Saving.{meta-fit, meta-fits, row-size, entry-seen, Through, through-start, through-room, through-next, head-end, head-put, all-saved}
 use Rattle.snapshot.proofs.save.save.Statement.{statement}
 use Rattle.snapshot.proofs.save.save.Tie as tie
 
@@ -22,7 +22,7 @@ abbrev μ-loop : tie.MeasureT-loop
 
 -- the table has as many entries as the count says
 entries : (c : tie.Start Inv-loop μ-loop) → length (view (c .args .t1) (c .args .mem .now)) ≡ c .args .t1 .count
-entries c = view-length (c .args .t1) (c .pre .0 .rows) (c .args .mem .now)
+entries c = view-length (c .args .t1) (c .pre .0 .arranged) (c .args .mem .now)
 
 -- what is written before the loop
 head-size : (c : tie.After-put-groups3 Inv-loop μ-loop) → c .put-groups3 .result ≡ length (savedHead (c .before .before .before .before .before .before .before .before .before .before .before .before .args .own) (length (view (c .before .before .before .before .before .before .before .before .before .before .before .before .args .t1) (c .before .before .before .before .before .before .before .before .before .before .before .before .args .mem .now))))
@@ -63,7 +63,7 @@ put-groups-requires-2 c κs = omega (arith, groups-length 0 1 (omega arith), gro
 
 put-groups-requires-3 : tie.Need-put-groups-requires-3 Inv-loop μ-loop
 put-groups-requires-3 c κs =
-    omega (arith, groups-length 0 1 (omega arith), groups-length 4 (c .before .before .before .before .before .before .before .before .before .before .before .args .own) (omega (arith, c .before .before .before .before .before .before .before .before .before .before .before .fits .own)), groups-length 0 (c .before .before .before .before .before .before .before .before .before .before .before .args .t1 .count) (omega (arith, c .before .before .before .before .before .before .before .before .before .before .before .pre .0 .rows .most)), c .before .before .before .before .before .before .before .before .before .before .before .pre .1 .1 .1)
+    omega (arith, groups-length 0 1 (omega arith), groups-length 4 (c .before .before .before .before .before .before .before .before .before .before .before .args .own) (omega (arith, c .before .before .before .before .before .before .before .before .before .before .before .fits .own)), groups-length 0 (c .before .before .before .before .before .before .before .before .before .before .before .args .t1 .count) (omega (arith, c .before .before .before .before .before .before .before .before .before .before .before .pre .0 .arranged .most)), c .before .before .before .before .before .before .before .before .before .before .before .pre .1 .1 .1)
 
 loop-holds : tie.Need-loop-holds Inv-loop μ-loop
 loop-holds c =
@@ -79,7 +79,7 @@ element-copy-out-e c = search needs
 bytes-of-requires : tie.Need-bytes-of-requires Inv-loop μ-loop
 bytes-of-requires c κs =
     let a = c .before .before .before .before .before .before .before .before .before .before .before .before .before .before .before .before .before .args in
-    row-fit (a .t1) (a .mem .now) (c .before .before .loop .i) (c .before .before .before .before .before .before .before .before .before .before .before .before .before .before .before .before .before .pre .0) (c .before .loop-test .taken)
+    meta-fit (a .t1) (a .mem .now) (c .before .before .loop .i) (c .before .before .before .before .before .before .before .before .before .before .before .before .before .before .before .before .before .pre .0) (c .before .loop-test .taken)
 
 save-entry-requires : tie.Need-save-entry-requires Inv-loop μ-loop
 save-entry-requires c κs =
@@ -87,7 +87,7 @@ save-entry-requires c κs =
     let p = c .before .before .before .before .before .before .before .before .before .before .before .before .before .before .before .before .before .before .before .pre in
     let k = c .before .before .before .before .before .before .before .put-groups3 in
     let l = c .before .before .before .before .loop in (
-      row-fits (a .t1) (a .mem .now) (l .i) (p .0) (c .before .before .before .loop-test .taken) _ (c .before .bytes-of .ensures) (a .own) (a .clock) (p .1 .0),
+      meta-fits (a .t1) (a .mem .now) (l .i) (p .0) (c .before .before .before .loop-test .taken) _ (c .before .bytes-of .ensures) (a .own) (a .clock) (p .1 .0),
       (
         row-size (a .t1) (a .mem .now) (l .i) (p .0) (c .before .before .before .loop-test .taken) _ (c .before .bytes-of .ensures),
         (
@@ -98,7 +98,7 @@ save-entry-requires c κs =
     )
 
 add-i : tie.Need-add-i Inv-loop μ-loop
-add-i c = omega (arith, c .before .before .before .before .before .before .loop-test .taken, c .before .before .before .before .before .before .before .before .before .before .before .before .before .before .before .before .before .before .before .before .before .before .pre .0 .rows .most)
+add-i c = omega (arith, c .before .before .before .before .before .before .loop-test .taken, c .before .before .before .before .before .before .before .before .before .before .before .before .before .before .before .before .before .before .before .before .before .before .pre .0 .arranged .most)
 
 loop-less : tie.Need-loop-less Inv-loop μ-loop
 loop-less c = omega (arith, c .before .before .before .before .before .before .loop-test .taken)

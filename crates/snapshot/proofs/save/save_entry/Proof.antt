@@ -7,7 +7,7 @@ use mathlib.Core.Path.{_≡_}
 use Prim.Native.Nat.{_+_, _≤_}
 use lib.ListN.{length}
 use Rattle.wire.specs.Groups.{groups}
-use Rattle.snapshot.proofs.Saving.{Short, short-row, short-age, row-saved}
+use Rattle.snapshot.proofs.Saving.{Short, short-row, short-age, meta-saved}
 
 short : (c : tie.Start) → Short (c .args .e) (c .args .bytes .now)
 short c = short-row (c .args .clock) (c .args .e) (c .args .bytes .now) (c .pre .0) (c .pre .1 .0)
@@ -65,7 +65,7 @@ returns c =
     let k2 = c .before .before .before .before .before .before .before .before .before .before .before .before .before .before .before .before .put-groups2 in
     let k3 = c .before .before .before .before .before .before .before .before .before .before .put-groups3 in
     let k4 = c .before .before .before .before .before .before .put-groups4 in
-    row-saved (a .e) (a .bytes .now) (a .clock) (a .at) (a .room .now) (k1 .last .0) (k2 .last .0) (k3 .last .0) (k4 .last .0) (c .before .before .store .last .0) (k1 .result) (k2 .result) (k3 .result) (k4 .result)
+    meta-saved (a .e) (a .bytes .now) (a .clock) (a .at) (a .room .now) (k1 .last .0) (k2 .last .0) (k3 .last .0) (k4 .last .0) (c .before .before .store .last .0) (k1 .result) (k2 .result) (k3 .result) (k4 .result)
     (c .before .before .before .before .before .before .before .before .before .before .before .before .age-at .result) (c .before .before .before .before .before .before .before .before .before .before .before .capped .result) (k1 .ensures .0) (k1 .ensures .1) (k2 .ensures .0) (k2 .ensures .1) (c .before .before .before .before .before .before .before .before .before .before .before .before .age-at .ensures) (c .before .before .before .before .before .before .before .before .before .before .before .capped .ensures) (k3 .ensures .0) (k3 .ensures .1)
     (k4 .ensures .0) (k4 .ensures .1) (c .before .before .before .before .before .before .before .before .before .before .before .before .before .before .before .before .before .before .before .before .before .before .before .before .before .before .pre .1 .0) (c .before .before .store .ensures) (omega (arith, inside (c .before .before .before .before .before .before) .0, inside (c .before .before .before .before .before .before) .1))
 

@@ -8,15 +8,15 @@ use Rattle.start.proofs.begin.begin.Tie as tie
 begin-requires : tie.Need-begin-requires
 begin-requires c κs = search needs
 
-with-table-requires : tie.Need-with-table-requires
-with-table-requires c κs = search needs
+undigested-requires : tie.Need-undigested-requires
+undigested-requires c κs = search needs
 
 with-digest-requires : tie.Need-with-digest-requires
 with-digest-requires c κs =
     let s = c .before .before .before in
     let a = s .args in
     let t = c .before .begin in
-    let w = c .with-table in
+    let w = c .undigested in
     begun-readable (a .own) (a .clock) (a .randoms) (omega (arith, s .fits .own)) (s .pre .1) (s .good .1 .1 .0 .1 .0 .1)
     (t .result) (a .mem .now) (t .ensures .1) (w .result) (w .ensures (a .mem .now) (t .ensures .0))
 
@@ -25,9 +25,9 @@ returns c =
     let s = c .before .before .before .before in
     let a = s .args in
     let t = c .before .before .begin in
-    let w = c .before .with-table in
+    let w = c .before .undigested in
     begun-moved (a .own) (a .clock) (a .randoms) (omega (arith, s .fits .own)) (s .pre .1) (s .good .1 .1 .0 .1 .0 .1)
     (t .result) (a .mem .now) (t .ensures .1) (w .result) (w .ensures (a .mem .now) (t .ensures .0)) (c .with-digest .result) (c .with-digest .ensures)
 
 pub begin-spec : {M : Type 1} → statement M
-begin-spec = tie.close (tie.spec begin-requires with-table-requires with-digest-requires returns)
+begin-spec = tie.close (tie.spec begin-requires undigested-requires with-digest-requires returns)

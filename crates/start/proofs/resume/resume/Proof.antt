@@ -17,14 +17,14 @@ returns c =
     let x = c .before .before .before .before .load in
     resume-refused (a .clock) (a .bytes .now) (a .randoms) (a .mem .now) (a .s) (x .result) (x .last .1 .0) (x .ensures) (not-true _ (c .if1 .taken))
 
-with-table-requires : tie.Need-with-table-requires
-with-table-requires c κs = search needs
+undigested-requires : tie.Need-undigested-requires
+undigested-requires c κs = search needs
 
 republish-requires : tie.Need-republish-requires
 republish-requires c κs =
     let a = c .before .before .before .before .before .before .before .before .before .before .args in
     let x = c .before .before .before .before .before .before .load in
-    let w = c .before .with-table in
+    let w = c .before .undigested in
     resume-ready (a .clock) (a .bytes .now) (a .randoms) (a .mem .now) (a .s) (x .result) (x .last .1 .0) (x .ensures)
     (not-false _ (c .before .before .if1 .left)) (w .result) (w .ensures)
 
@@ -33,7 +33,7 @@ with-digest-requires c κs =
     let s = c .before .before .before .before .before .before .before .before .before .before .before .before .before .before in
     let a = s .args in
     let x = c .before .before .before .before .before .before .before .before .before .before .load in
-    let w = c .before .before .before .before .before .with-table in
+    let w = c .before .before .before .before .before .undigested in
     let r = c .before .before .before .republish in
     resume-readable (a .clock) (a .bytes .now) (a .randoms) (a .mem .now) (a .s) (x .result) (x .last .1 .0) (x .ensures)
     (not-false _ (c .before .before .before .before .before .before .if1 .left)) (w .result) (w .ensures) (s .pre .1) (s .good .1 .1 .1 .1 .0 .1 .0 .1) (r .result) (r .last .1 .0) (r .ensures)
@@ -46,7 +46,7 @@ returns-2 c =
     let s = c .before .before .before .before .before .before .before .before .before .before .before .before .before .before .before in
     let a = s .args in
     let x = c .before .before .before .before .before .before .before .before .before .before .before .load in
-    let w = c .before .before .before .before .before .before .with-table in
+    let w = c .before .before .before .before .before .before .undigested in
     let r = c .before .before .before .before .republish in
     resume-done (a .clock) (a .bytes .now) (a .randoms) (a .mem .now) (a .s) (x .result) (x .last .1 .0) (x .ensures)
     (not-false _ (c .before .before .before .before .before .before .before .if1 .left)) (w .result) (w .ensures) (s .pre .1) (s .good .1 .1 .1 .1 .0 .1 .0 .1) (r .result) (r .last .1 .0) (r .ensures)
@@ -59,7 +59,7 @@ resume-spec =
     load-requires
     same-length
     returns
-    with-table-requires
+    undigested-requires
     republish-requires
     with-digest-requires
     same-length-2

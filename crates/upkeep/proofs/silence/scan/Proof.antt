@@ -54,14 +54,14 @@ use denote.Exit.{yes}
 use Rattle.model.specs.Table.{Entry}
 use Rattle.model.specs.Tick.{goes}
 use Rattle.table.specs.declared.Table.{Table}
-use Rattle.table.specs.View.{view, Kept}
+use Rattle.table.specs.View.{view, Kept, AllGood}
 use Rattle.table.proofs.Table as N
 use Rattle.table.proofs.Table.Laws as N′
 use Rattle.node.specs.declared.peers.Peer.{Peer}
 use Rattle.node.specs.View.{peerOf}
 use Rattle.node.proofs.peers.Peer as T
 use Rattle.node.proofs.peers.Peer.Laws as T′
-use Rattle.upkeep.specs.Ticked.{AllGood, Lent, Scanned}
+use Rattle.upkeep.specs.Ticked.{Lent, Scanned}
 use Rattle.upkeep.proofs.Shapes.{word, half, Bits, bits, bitsVal, slice, bytes, bytesVal, Bytes, tableVal, peerVal}
 use Rattle.upkeep.proofs.Leaving.{nobody, Marked, mark-none, mark-next, mark-all}
 use Rattle.upkeep.proofs.silence.is_going as test

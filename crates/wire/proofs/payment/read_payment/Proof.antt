@@ -1,10 +1,10 @@
 use borrow.Author.Needs.{needs}
+use Rattle.base.specs.Bytes.{mostU32}
 use Rattle.wire.proofs.payment.read_payment.Statement.{statement}
 use Rattle.wire.proofs.payment.read_payment.Tie as tie
 use mir.Syntax.{w32}
 use mir.Val.{SFits}
 use Rattle.base.proofs.Signed.{narrow-back}
-use Rattle.wire.specs.Payment.{most}
 use Rattle.wire.specs.Groups.{readGroups}
 use Rattle.wire.proofs.Payments.{as-bad, inside-value, first-bad, second-bad, third-bad, one-read, two-read, three-read, ended-more, ended-low, ended-high, ended-well}
 use native.Mathlib.Omega.{arith}
@@ -23,14 +23,14 @@ enum-told c = search needs
 returns : tie.Need-returns
 returns c =
     let s = c .before .before .before .before .args .value .now in
-    sym (first-bad s (as-bad s (c .before .before .read-groups .result) (readGroups most s) (c .before .before .read-groups .ensures .0) (c .enum-told .given .1)))
+    sym (first-bad s (as-bad s (c .before .before .read-groups .result) (readGroups mostU32 s) (c .before .before .read-groups .ensures .0) (c .enum-told .given .1)))
 
 read-groups-requires-2 : tie.Need-read-groups-requires-2
 read-groups-requires-2 c κs =
     let s = c .before .before .before .before .before .args .value .now in
     let k1 = c .before .before .before .read-groups in
     let q1 = c .before .first .given in
-    (inside-value s 0 most (k1 .result) (q1 .0 .0) (q1 .0 .1 .0) (k1 .ensures .1) (q1 .1) .1, omega arith)
+    (inside-value s 0 mostU32 (k1 .result) (q1 .0 .0) (q1 .0 .1 .0) (k1 .ensures .1) (q1 .1) .1, omega arith)
 
 enum-known-second : tie.Need-enum-known-second
 enum-known-second c = search needs
@@ -43,7 +43,7 @@ returns-2 c =
     let s = c .before .before .before .before .before .before .before .before .args .value .now in
     let k1 = c .before .before .before .before .before .before .read-groups in
     let q1 = c .before .before .before .before .first .given in
-    sym (one-read s (k1 .result) (q1 .0 .0) (q1 .0 .1 .0) (k1 .ensures .0) (q1 .1) ∙ second-bad (q1 .0 .0) (drop (q1 .0 .1 .0) s) (as-bad s (c .before .before .read-groups2 .result) (readGroups most (drop (q1 .0 .1 .0) s)) (c .before .before .read-groups2 .ensures .0) (c .enum-told2 .given .1)))
+    sym (one-read s (k1 .result) (q1 .0 .0) (q1 .0 .1 .0) (k1 .ensures .0) (q1 .1) ∙ second-bad (q1 .0 .0) (drop (q1 .0 .1 .0) s) (as-bad s (c .before .before .read-groups2 .result) (readGroups mostU32 (drop (q1 .0 .1 .0) s)) (c .before .before .read-groups2 .ensures .0) (c .enum-told2 .given .1)))
 
 read-groups-requires-3 : tie.Need-read-groups-requires-3
 read-groups-requires-3 c κs =
@@ -51,7 +51,7 @@ read-groups-requires-3 c κs =
     let q1 = c .before .before .before .before .before .first .given in
     let k2 = c .before .before .before .read-groups2 in
     let q2 = c .before .second .given in
-    (inside-value s (q1 .0 .1 .0) most (k2 .result) (q2 .0 .0) (q2 .0 .1 .0) (k2 .ensures .1) (q2 .1) .1, omega arith)
+    (inside-value s (q1 .0 .1 .0) mostU32 (k2 .result) (q2 .0 .0) (q2 .0 .1 .0) (k2 .ensures .1) (q2 .1) .1, omega arith)
 
 enum-known-third : tie.Need-enum-known-third
 enum-known-third c = search needs
@@ -66,7 +66,7 @@ returns-3 c =
     let q1 = c .before .before .before .before .before .before .before .before .first .given in
     let k2 = c .before .before .before .before .before .before .read-groups2 in
     let q2 = c .before .before .before .before .second .given in
-    sym (two-read s (k1 .result) (q1 .0 .0) (q1 .0 .1 .0) (k1 .ensures .0) (q1 .1) (k2 .result) (q2 .0 .0) (q2 .0 .1 .0) (k2 .ensures .0) (q2 .1) ∙ third-bad (q1 .0 .0) (q2 .0 .0) (drop (q2 .0 .1 .0) s) (as-bad s (c .before .before .read-groups3 .result) (readGroups most (drop (q2 .0 .1 .0) s)) (c .before .before .read-groups3 .ensures .0) (c .enum-told3 .given .1)))
+    sym (two-read s (k1 .result) (q1 .0 .0) (q1 .0 .1 .0) (k1 .ensures .0) (q1 .1) (k2 .result) (q2 .0 .0) (q2 .0 .1 .0) (k2 .ensures .0) (q2 .1) ∙ third-bad (q1 .0 .0) (q2 .0 .0) (drop (q2 .0 .1 .0) s) (as-bad s (c .before .before .read-groups3 .result) (readGroups mostU32 (drop (q2 .0 .1 .0) s)) (c .before .before .read-groups3 .ensures .0) (c .enum-told3 .given .1)))
 
 returns-4 : tie.Need-returns-4
 returns-4 c =
@@ -107,7 +107,7 @@ cast-unfold c =
     let q2 = c .before .before .before .before .before .before .before .before .second .given in
     let k3 = c .before .before .before .before .before .before .read-groups3 in
     let q3 = c .before .before .before .before .third .given in
-    omega (arith, inside-value s (q2 .0 .1 .0) most (k3 .result) (q3 .0 .0) (q3 .0 .1 .0) (k3 .ensures .1) (q3 .1) .2)
+    omega (arith, inside-value s (q2 .0 .1 .0) mostU32 (k3 .result) (q3 .0 .0) (q3 .0 .1 .0) (k3 .ensures .1) (q3 .1) .2)
 
 unfold-requires : tie.Need-unfold-requires
 unfold-requires c κs = search needs
@@ -121,7 +121,7 @@ cast-t15 c =
     let q1 = c .before .before .before .before .before .before .before .before .before .before .before .before .before .first .given in
     let k2 = c .before .before .before .before .before .before .before .before .before .before .before .read-groups2 in
     let q2 = c .before .before .before .before .before .before .before .before .before .second .given in
-    omega (arith, inside-value s (q1 .0 .1 .0) most (k2 .result) (q2 .0 .0) (q2 .0 .1 .0) (k2 .ensures .1) (q2 .1) .2)
+    omega (arith, inside-value s (q1 .0 .1 .0) mostU32 (k2 .result) (q2 .0 .0) (q2 .0 .1 .0) (k2 .ensures .1) (q2 .1) .2)
 
 returns-7 : tie.Need-returns-7
 returns-7 c =

@@ -1,6 +1,6 @@
 use borrow.Author.Needs.{needs}
-use Rattle.start.proofs.begin.with_table.Statement.{statement}
-use Rattle.start.proofs.begin.with_table.Tie as tie
+use Rattle.start.proofs.begin.undigested.Statement.{statement}
+use Rattle.start.proofs.begin.undigested.Tie as tie
 use Rattle.start.proofs.Starting.{with-parts}
 
 no-peers-requires : tie.Need-no-peers-requires
@@ -16,5 +16,5 @@ returns c =
     let e = c .fresh-endpoints in
     with-parts (a .own) (a .clock) (a .randoms) (a .t) (p .result) (e .result) (p .ensures) (e .ensures)
 
-pub with-table-spec : {M : Type 1} → statement M
-with-table-spec = tie.close (tie.spec no-peers-requires fresh-endpoints-requires returns)
+pub undigested-spec : {M : Type 1} → statement M
+undigested-spec = tie.close (tie.spec no-peers-requires fresh-endpoints-requires returns)

@@ -1,12 +1,12 @@
-use Rattle.table.proofs.insert_row.Statement.{statement}
-use Rattle.table.proofs.insert_row.Tie as tie
+use Rattle.table.proofs.insert_meta.Statement.{statement}
+use Rattle.table.proofs.insert_meta.Tie as tie
 use Prim.Native.Nat.{_≤_, _<_, _+_, _-_}
 use mathlib.Core.Path.{_≡_, sym, ap, _∙_}
 use mathlib.Core.List.{_++_, _∷_}
 use native.Mathlib.Omega.{arith}
 use lib.ListN.{length, take, drop, getD}
 use Rattle.table.specs.View.{withEntries}
-use Rattle.table.proofs.Rows.{length-mapped, store-on, store-end}
+use Rattle.table.proofs.Tables.{length-mapped, store-on, store-end}
 use Rattle.base.proofs.Places.{ins-start, ins-at, ins-next, ins-read, ins-step}
 use borrow.Author.Needs.{needs}
 
@@ -73,8 +73,8 @@ returns c =
     let k : a .t .count < length (a .t .entries) = omega arith in
     store-end (v .n) (a .t) _ _ (a .t .count) _ (v .carry) (rw e at (v .inv .2)) (rw (rw e at (v .inv .3)) (ins-step (a .t .entries) (a .i) (a .e) h (a .t .count) (omega arith) k (a .e)))
 
-pub insert-row-spec : {M : Type 1} → statement M
-insert-row-spec =
+pub insert-meta-spec : {M : Type 1} → statement M
+insert-meta-spec =
     tie.close
     (tie.spec
     Inv-loop

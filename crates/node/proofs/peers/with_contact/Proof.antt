@@ -5,8 +5,8 @@ use Prim.Native.Nat.{_≤_, _-_}
 use Rattle.model.specs.State.{contacted}
 use Rattle.node.specs.View.{peersOf, PeersRep}
 use Rattle.node.proofs.Contacts.{doneTo, done-next, done-end, peers-set-rep, peers-length}
-use Rattle.node.proofs.peers.touch.Statement.{statement}
-use Rattle.node.proofs.peers.touch.Tie as tie
+use Rattle.node.proofs.peers.with_contact.Statement.{statement}
+use Rattle.node.proofs.peers.with_contact.Tie as tie
 
 abbrev Inv-loop : tie.InvT-loop
 Inv-loop node theirs ours clock count r₀ i₀ r i =
@@ -57,8 +57,8 @@ returns c =
     let l = peers-length (a .p) (c .before .before .pre) in
     (v .inv .2, v .inv .3 ∙ done-end (contacted (a .node) (a .theirs) (a .ours) (a .clock)) (peersOf (a .p)) (v .i) (omega (arith, l)))
 
-pub touch-spec : {M : Type 1} → statement M
-touch-spec =
+pub with-contact-spec : {M : Type 1} → statement M
+with-contact-spec =
     tie.close
     (tie.spec
     Inv-loop

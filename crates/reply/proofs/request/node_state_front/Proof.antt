@@ -1,6 +1,6 @@
 use borrow.Author.Needs.{needs}
-use Rattle.reply.proofs.request.front_of.Statement.{statement}
-use Rattle.reply.proofs.request.front_of.Tie as tie
+use Rattle.reply.proofs.request.node_state_front.Statement.{statement}
+use Rattle.reply.proofs.request.node_state_front.Tie as tie
 
 sent-age-requires : tie.Need-sent-age-requires
 sent-age-requires c κs = search needs
@@ -11,5 +11,5 @@ state-front-requires c κs = search needs
 returns : tie.Need-returns
 returns c = rw (c .before .sent-age .ensures) at (c .state-front .ensures)
 
-pub front-of-spec : {M : Type 1} → statement M
-front-of-spec = tie.close (tie.spec sent-age-requires state-front-requires returns)
+pub node-state-front-spec : {M : Type 1} → statement M
+node-state-front-spec = tie.close (tie.spec sent-age-requires state-front-requires returns)

@@ -1,0 +1,528 @@
+-- The entries of the table against the model's table. Assumes nothing.
+use Prim.Native.Nat.{ℕ, zero, suc, _+_, _-_, _*_, _≤_, _<_, zero-le, suc-le-suc}
+use mathlib.Core.Path.{_≡_, refl, sym, ap, _∙_, subst}
+use mathlib.Core.Bool.{Bool, true, false, cond}
+use mathlib.Core.List.{List, [], _∷_, _++_, map, append-nil}
+use mathlib.Core.Option.{none, some}
+use native.Mathlib.Nat.{not-suc-le-zero, le-of-suc-le-suc}
+use native.Mathlib.Omega.{arith}
+use lib.ListN.{length, getD, take, drop, set, length-take, length-drop, length-append, length-set, length-map, drop-of-length-le, List·getD-map, List·getD-append}
+use native.Mathlib.Numerals.{add-one}
+use lib.Seq.{take-suc-set, take-set-le, getD-take, drop-cons, append-snoc, getD-at, getD-set-same, take-set-lt, take-at, length-take-le}
+use mathlib.Core.Logic.{inl, inr}
+use Rattle.base.specs.Lists.{keep, keepBy, In, All}
+use Rattle.base.specs.Memory.{part, written, spliced, cut}
+use Rattle.base.specs.Sorted.{find, insert, Above, Ascending}
+use Rattle.base.proofs.Tests.{by-order}
+use Rattle.base.proofs.Lists.{all-keep-by}
+use Rattle.base.proofs.Sorted.{above-less, insert-lt, insert-eq, insert-gt, insert-ascending, find-no, all-insert}
+use Rattle.base.proofs.Places.{find-at, insert-over, insert-between, all-at, getD-any, pigeons}
+use Rattle.base.proofs.Written.{part-length, part-there, spliced-length, cut-length, other-slot, written-outside, same-outside, written-above, written-there, written-length}
+use Rattle.sha256.specs.Sha256.{hash16}
+use Rattle.model.specs.Figures.{mostNodes, dataLimit, tableBytes}
+use Rattle.model.specs.Table.{Entry, entryOf, idOf, put, look}
+use Rattle.table.specs.View.{blank, metaId, live, metaAt, dataOf, seen, view, OnlySlot, Free, Apart, FitMeta, Fit, Hashed, Arranged, Kept, Stands, Gap, Finding, Read, Stored, withEntries, withMeta, inserted, Renumbered, SlotUsed, Purged}
+use Rattle.table.specs.declared.Table.{Table}
+use Rattle.table.specs.declared.Found.{Found}
+use Rattle.table.specs.declared.Found.the-variants.{At, Missing}
+use Rattle.table.specs.declared.Entry.{Entry as Meta}
+
+-- ---- seen in the model
+
+above-seen : (m : List ℕ) (n : ℕ) (l : List Meta) → Above metaId n l → Above idOf n (map (seen m) l)
+above-seen m n [] h = tt
+above-seen m n (e ∷ l) h = (h .0, above-seen m n l (h .1))
+
+pub seen-ascending : (m : List ℕ) (l : List Meta) → Ascending metaId l → Ascending idOf (map (seen m) l)
+seen-ascending m [] h = tt
+seen-ascending m (e ∷ l) h = (above-seen m (e .id) l (h .0), seen-ascending m l (h .1))
+
+seen-meta : (m m′ : List ℕ) (e : Meta) → dataOf m′ e ≡ dataOf m e → seen m′ e ≡ seen m e
+seen-meta m m′ e q = ap (λ (d : List ℕ). entryOf (e .id) (e .seq) d (e .age) (e .since)) q
+
+seen-others : (m m′ : List ℕ) (s : ℕ) → OnlySlot s m m′ → (l : List Meta) → Fit l → Free s l → map (seen m′) l ≡ map (seen m) l
+seen-others m m′ s o [] f g = refl
+seen-others m m′ s o (e ∷ l) f g =
+    let q : seen m′ e ≡ seen m e = seen-meta m m′ e (other-slot m m′ dataLimit s (e .slot) (e .len) o (f .0 .1) (g .0)) in
+    let r : map (seen m′) l ≡ map (seen m) l = seen-others m m′ s o l (f .1) (g .1) in
+    cc
+
+-- ---- an entry put in over the entry of its node, or where its slot is free
+
+-- an entry of another node has another slot
+abbrev pub Clear : Meta → List Meta → Type 0
+Clear e [] = Unit {0}
+Clear e (x ∷ l) = (¬ (x .id ≡ e .id) → ¬ (x .slot ≡ e .slot)) × Clear e l
+
+clear-free : (e : Meta) (l : List Meta) → Above metaId (e .id) l → Clear e l → Free (e .slot) l
+clear-free e [] a h = tt
+clear-free e (x ∷ l) a h = (h .0 (omega arith), clear-free e l (a .1) (h .1))
+
+pub free-clear : (e : Meta) (s : ℕ) (l : List Meta) → e .slot ≡ s → Free s l → Clear e l
+free-clear e s [] q h = tt
+free-clear e s (x ∷ l) q h = ((λ n k. h .0 (k ∙ q)), free-clear e s l q (h .1))
+
+pub stands-clear : (e : Meta) (l : List Meta) (i : ℕ) → Apart l → i < length l → getD l i blank .id ≡ e .id → getD l i blank .slot ≡ e .slot → Clear e l
+stands-clear e [] i a p q r = tt
+stands-clear e (x ∷ l) zero a p q r = ((λ n. absurd (n q)), free-clear e (x .slot) l (sym r) (a .0))
+stands-clear e (x ∷ l) (suc i) a p q r =
+    ((λ n k. all-at (λ (e : Meta). ¬ (e .slot ≡ x .slot)) blank l i (a .0) (le-of-suc-le-suc p) (r ∙ sym k)), stands-clear e l i (a .1) (le-of-suc-le-suc p) q r)
+
+apart-put : (e : Meta) (l : List Meta) → Ascending metaId l → Clear e l → Apart l → Apart (insert metaId e l)
+unfolding insert
+apart-put e [] a c h = (tt, tt)
+apart-put e (x ∷ l) a c h =
+    by-order (e .id) (x .id)
+    (λ lt. rw (insert-lt metaId e x l lt) (clear-free e (x ∷ l) (lt, above-less metaId l (omega arith) (a .0)) c, h))
+    (λ eq. rw (insert-eq metaId e x l eq) (clear-free e l (above-less metaId l (omega arith) (a .0)) (c .1), h .1))
+    (λ gt. rw (insert-gt metaId e x l gt) (all-insert (λ (y : Meta). ¬ (y .slot ≡ x .slot)) metaId e l (λ k. c .0 (omega arith) (sym k)) (h .0), apart-put e l (a .1) (c .1) (h .1)))
+
+seen-put : (m m′ : List ℕ) (e : Meta) (l : List Meta) → OnlySlot (e .slot) m m′ → Ascending metaId l → Fit l → Clear e l
+    → map (seen m′) (insert metaId e l) ≡ insert idOf (seen m′ e) (map (seen m) l)
+unfolding insert
+seen-put m m′ e [] o a f c = refl
+seen-put m m′ e (x ∷ l) o a f c =
+    by-order (e .id) (x .id)
+    (λ lt. rw (insert-lt metaId e x l lt, insert-lt idOf (seen m′ e) (seen m x) (map (seen m) l) lt)
+    (ap (λ (r : List Entry). seen m′ e ∷ r) (seen-others m m′ (e .slot) o (x ∷ l) f (clear-free e (x ∷ l) (lt, above-less metaId l (omega arith) (a .0)) c))))
+    (λ eq. rw (insert-eq metaId e x l eq, insert-eq idOf (seen m′ e) (seen m x) (map (seen m) l) eq)
+    (ap (λ (r : List Entry). seen m′ e ∷ r) (seen-others m m′ (e .slot) o l (f .1) (clear-free e l (above-less metaId l (omega arith) (a .0)) (c .1)))))
+    (λ gt. rw (insert-gt metaId e x l gt, insert-gt idOf (seen m′ e) (seen m x) (map (seen m) l) gt)
+    (let q : seen m′ x ≡ seen m x = seen-meta m m′ x (other-slot m m′ dataLimit (e .slot) (x .slot) (x .len) o (f .0 .1) (c .0 (omega arith))) in
+    let r : map (seen m′) (insert metaId e l) ≡ insert idOf (seen m′ e) (map (seen m) l) = seen-put m m′ e l o (a .1) (f .1) (c .1) in
+    cc))
+
+-- ---- found
+
+module _ (l : List Meta) (i : ℕ) (d : Meta) (x : ℕ) (h : i < length l) where
+  pub id-is : getD l i d .id ≡ x → getD l i blank .id ≡ x
+  id-is e = ap metaId (getD-any l i blank d h) ∙ e
+
+  pub id-over : x < getD l i d .id → x < getD l i blank .id
+  id-over p = let q : getD l i blank .id ≡ getD l i d .id = ap metaId (getD-any l i blank d h) in omega arith
+
+  pub ids-under : ¬ (getD l i d .id ≡ x) → getD l i d .id ≤ x → ((k : ℕ) → k < i → getD l k blank .id < x) → (k : ℕ) → k < i + 1 → getD l k blank .id < x
+  ids-under n p f k q =
+      let e : getD l i blank .id ≡ getD l i d .id = ap metaId (getD-any l i blank d h) in
+      by-order k i (λ r. f k r) (λ r. rw r (omega arith)) (λ r. absurd (omega arith))
+
+-- ---- digests
+
+hashed-meta : (m m′ : List ℕ) (e : Meta) → dataOf m′ e ≡ dataOf m e → e .hash ≡ hash16 (dataOf m e) → e .hash ≡ hash16 (dataOf m′ e)
+hashed-meta m m′ e q h = h ∙ ap hash16 (sym q)
+
+hashed-others : (m m′ : List ℕ) (s : ℕ) → OnlySlot s m m′ → (l : List Meta) → Fit l → Free s l → Hashed m l → Hashed m′ l
+hashed-others m m′ s o [] f g h = tt
+hashed-others m m′ s o (e ∷ l) f g h =
+    (hashed-meta m m′ e (other-slot m m′ dataLimit s (e .slot) (e .len) o (f .0 .1) (g .0)) (h .0), hashed-others m m′ s o l (f .1) (g .1) (h .1))
+
+hashed-put : (m m′ : List ℕ) (e : Meta) (l : List Meta) → OnlySlot (e .slot) m m′ → Ascending metaId l → Fit l → Clear e l → e .hash ≡ hash16 (dataOf m′ e) → Hashed m l
+    → Hashed m′ (insert metaId e l)
+unfolding insert
+hashed-put m m′ e [] o a f c q h = (q, tt)
+hashed-put m m′ e (x ∷ l) o a f c q h =
+    by-order (e .id) (x .id)
+    (λ lt. rw (insert-lt metaId e x l lt)
+    (q, hashed-others m m′ (e .slot) o (x ∷ l) f (clear-free e (x ∷ l) (lt, above-less metaId l (omega arith) (a .0)) c) h))
+    (λ eq. rw (insert-eq metaId e x l eq)
+    (q, hashed-others m m′ (e .slot) o l (f .1) (clear-free e l (above-less metaId l (omega arith) (a .0)) (c .1)) (h .1)))
+    (λ gt. rw (insert-gt metaId e x l gt)
+    (hashed-meta m m′ x (other-slot m m′ dataLimit (e .slot) (x .slot) (x .len) o (f .0 .1) (c .0 (omega arith))) (h .0), hashed-put m m′ e l o (a .1) (f .1) (c .1) q (h .1)))
+
+-- ---- where an entry goes in
+
+pub live-length : (t : Table) → Arranged t → length (live t) ≡ t .count
+live-length t k = simp length-take (omega arith)
+
+live-at : (t : Table) (i : ℕ) → i < t .count → getD (live t) i blank ≡ metaAt t i
+live-at t i p = getD-take (t .count) (t .entries) i blank p
+
+pub live-over : (t : Table) (i : ℕ) (e : Meta) → Arranged t → Stands t (e .id) i → live (withMeta t i e) ≡ insert metaId e (live t)
+live-over t i e k s =
+    take-set-lt (t .count) (t .entries) i e (s .at)
+    ∙ sym (insert-over metaId blank e (live t) i (k .ascending) (rw (live-length t k) (s .at)) (ap metaId (live-at t i (s .at)) ∙ s .named))
+
+take-insert : {A : Type 0} (l : List A) (i n : ℕ) (e : A) → i ≤ n → take (suc n) (take i l ++ (e ∷ drop i l)) ≡ take i (take n l) ++ (e ∷ drop i (take n l))
+take-insert l zero n e p = refl
+take-insert l (suc i) zero e p = absurd (not-suc-le-zero p)
+take-insert [] (suc i) (suc n) e p = refl
+take-insert (x ∷ l) (suc i) (suc n) e p = ap (λ (z : List _). x ∷ z) (take-insert l i n e (le-of-suc-le-suc p))
+
+pub live-new : (t : Table) (i : ℕ) (e : Meta) → Arranged t → t .count < 32 → Gap t (e .id) i → live (inserted t i e) ≡ insert metaId e (live t)
+live-new t i e k l g =
+    let n : length (take (t .count + 1) (take i (t .entries) ++ (e ∷ drop i (t .entries)))) ≡ t .count + 1 = ins-long in
+    take-at (take (t .count + 1) (take i (t .entries) ++ (e ∷ drop i (t .entries)))) (drop (t .count + 1) (t .entries)) (t .count + 1) n
+    ∙ rw add-one (take-insert (t .entries) i (t .count) e (g .at))
+    ∙ sym (insert-between metaId blank e (live t) i (rw (live-length t k) (g .at))
+    (λ j p. rw (live-at t j (omega (arith, g .at))) (g .below j p)) (λ p. rw (live-at t i (rw (live-length t k) at p)) (g .above (rw (live-length t k) at p))))
+  where
+    ins-long : length (take (t .count + 1) (take i (t .entries) ++ (e ∷ drop i (t .entries)))) ≡ t .count + 1
+    ins-long = let w : length (t .entries) ≡ 32 = k .wide in let p : i ≤ t .count = g .at in simp (length-take, length-append, length-drop) (omega arith)
+
+-- ---- an entry put in: the invariant and the view
+
+module _ (t r : Table) (e : Meta) (k : Arranged t) (most : r .count ≤ mostNodes) (wide : length (r .entries) ≡ mostNodes) (q : live r ≡ insert metaId e (live t)) (f : FitMeta e) (c : Clear e (live t)) where
+  pub arranged-put : Arranged r
+  arranged-put =
+      record {
+        most = most;
+        wide = wide;
+        ascending = rw q (insert-ascending metaId e (live t) (k .ascending));
+        fit = rw q (all-insert FitMeta metaId e (live t) f (k .fit));
+        apart = rw q (apart-put e (live t) (k .ascending) c (k .apart));
+      }
+
+  pub view-put : (m m′ : List ℕ) → OnlySlot (e .slot) m m′ → view r m′ ≡ put (seen m′ e) (view t m)
+  unfolding view put
+  view-put m m′ o = rw q (seen-put m m′ e (live t) o (k .ascending) (k .fit) c)
+
+  pub hashes-put : (m m′ : List ℕ) → OnlySlot (e .slot) m m′ → e .hash ≡ hash16 (dataOf m′ e) → Hashed m (live t) → Hashed m′ (live r)
+  hashes-put m m′ o h g = rw q (hashed-put m m′ e (live t) o (k .ascending) (k .fit) c h g)
+
+-- written into its slot
+module _ (t r : Table) (m : List ℕ) (e : Meta) (d : List ℕ) (i : ℕ) (k : Kept t m) (most : r .count ≤ mostNodes) (wide : length (r .entries) ≡ mostNodes)
+    (q : live r ≡ insert metaId e (live t)) (f : FitMeta e) (c : Clear e (live t)) (n : e .len ≡ length d) (h : e .hash ≡ hash16 d) (b : i < r .count) (s : metaAt r i ≡ e) where
+  there : dataOf (written m (e .slot * dataLimit) d) e ≡ d
+  there = rw n (written-there m d (e .slot * dataLimit) (omega (arith, f .0, f .1, k .room)))
+
+  pub stored : Stored (entryOf (e .id) (e .seq) d (e .age) (e .since)) t m i r (written m (e .slot * dataLimit) d)
+  stored =
+      let o : OnlySlot (e .slot) m (written m (e .slot * dataLimit) d) = written-outside m d (e .slot * dataLimit) dataLimit (omega (arith, f .0, k .room)) (omega (arith, f .1)) in
+      record {
+        kept =
+            record {
+              arranged = arranged-put t r e (k .arranged) most wide q f c;
+              room = rw (written-length m d (e .slot * dataLimit) (omega (arith, f .0, f .1, k .room))) (k .room);
+              hashed = hashes-put t r e (k .arranged) most wide q f c m (written m (e .slot * dataLimit) d) o (h ∙ ap hash16 (sym there)) (k .hashed);
+            };
+        viewed = view-put t r e (k .arranged) most wide q f c m (written m (e .slot * dataLimit) d) o ∙ ap (λ (z : List ℕ). put (entryOf (e .id) (e .seq) z (e .age) (e .since)) (view t m)) there;
+        stands = record { at = b; named = ap metaId s };
+        memory = ap (λ (z : Meta). written m (z .slot * dataLimit) d) (sym s);
+        beyond = written-above m d (e .slot * dataLimit) (omega (arith, f .0, f .1, k .room)) tableBytes (omega (arith, f .0, f .1));
+      }
+
+-- over the entry of its node
+pub stored-over : (t : Table) (m : List ℕ) (e : Meta) (d : List ℕ) (i : ℕ) → Kept t m → Stands t (e .id) i → e .slot ≡ metaAt t i .slot → e .len ≡ length d → length d ≤ dataLimit → e .hash ≡ hash16 d
+    → Stored (entryOf (e .id) (e .seq) d (e .age) (e .since)) t m i (withMeta t i e) (written m (e .slot * dataLimit) d)
+stored-over t m e d i k s q n l h =
+    let b : i < length (live t) = rw (live-length t (k .arranged)) (s .at) in
+    let w : i < length (t .entries) = omega (arith, k .arranged .wide, k .arranged .most, s .at) in
+    let f : FitMeta (metaAt t i) = rw (live-at t i (s .at)) at (all-at FitMeta blank (live t) i (k .arranged .fit) b) in
+    stored t (withMeta t i e) m e d i k (k .arranged .most) (length-set (t .entries) i e ∙ k .arranged .wide) (live-over t i e (k .arranged) s) (omega (arith, f .0), omega arith)
+    (stands-clear e (live t) i (k .arranged .apart) b (ap metaId (live-at t i (s .at)) ∙ s .named) (ap (λ (x : Meta). x .slot) (live-at t i (s .at)) ∙ sym q)) n h
+    (s .at) (getD-set-same (t .entries) i e blank w)
+
+-- a new one, in a free slot
+pub stored-new : (t : Table) (m : List ℕ) (e : Meta) (d : List ℕ) (i : ℕ) → Kept t m → t .count < 32 → Gap t (e .id) i → e .slot < 32 → Free (e .slot) (live t) → e .len ≡ length d → length d ≤ dataLimit → e .hash ≡ hash16 d
+    → Stored (entryOf (e .id) (e .seq) d (e .age) (e .since)) t m i (inserted t i e) (written m (e .slot * dataLimit) d)
+stored-new t m e d i k p g s free n l h =
+    stored t (inserted t i e) m e d i k (omega arith) long (live-new t i e (k .arranged) p g) (s, omega arith) (free-clear e (e .slot) (live t) refl free) n h (omega (arith, g .at)) there
+  where
+    long : length (inserted t i e .entries) ≡ 32
+    long = let w : length (t .entries) ≡ 32 = k .arranged .wide in let b : i ≤ t .count = g .at in simp (length-append, length-take, length-drop) (omega arith)
+
+    there : getD (inserted t i e .entries) i blank ≡ e
+    there =
+        let w : length (t .entries) ≡ 32 = k .arranged .wide in let b : i ≤ t .count = g .at in
+        List·getD-append (take (t .count + 1) (take i (t .entries) ++ (e ∷ drop i (t .entries)))) (drop (t .count + 1) (t .entries)) blank i (simp (length-append, length-take, length-drop) (omega arith))
+        ∙ getD-take (t .count + 1) (take i (t .entries) ++ (e ∷ drop i (t .entries))) i blank (omega arith)
+        ∙ getD-at (take i (t .entries)) e (drop i (t .entries)) blank i (length-take-le i (t .entries) (omega arith))
+
+-- with the data as they were
+pub renumbered : (t : Table) (e : Meta) (i : ℕ) → Arranged t → Stands t (e .id) i → e .slot ≡ metaAt t i .slot → e .len ≡ metaAt t i .len → e .hash ≡ metaAt t i .hash
+    → Renumbered (e .id) (e .seq) (e .age) (e .since) t i (withMeta t i e)
+renumbered t e i k s q n h =
+    record {
+      arranged = arranged-put t (withMeta t i e) e k (k .most) wide (live-over t i e k s) f c;
+      kept = λ m g.
+          record {
+            arranged = arranged-put t (withMeta t i e) e k (k .most) wide (live-over t i e k s) f c;
+            room = g .room;
+            hashed = hashes-put t (withMeta t i e) e k (k .most) wide (live-over t i e k s) f c m m (same-outside m (e .slot * dataLimit) dataLimit) (h ∙ hashed-at m g ∙ ap hash16 (sym (same m))) (g .hashed);
+          };
+      viewed = λ m.
+          view-put t (withMeta t i e) e k (k .most) wide (live-over t i e k s) f c m m (same-outside m (e .slot * dataLimit) dataLimit)
+          ∙ ap (λ (z : List ℕ). put (entryOf (e .id) (e .seq) z (e .age) (e .since)) (view t m)) (same m);
+    }
+  where
+    b : i < length (live t)
+    b = rw (live-length t k) (s .at)
+
+    wide : length (set (t .entries) i e) ≡ 32
+    wide = length-set (t .entries) i e ∙ k .wide
+
+    f : FitMeta e
+    f = let g : FitMeta (metaAt t i) = rw (live-at t i (s .at)) at (all-at FitMeta blank (live t) i (k .fit) b) in (omega (arith, g .0), omega (arith, g .1))
+
+    c : Clear e (live t)
+    c = stands-clear e (live t) i (k .apart) b (ap metaId (live-at t i (s .at)) ∙ s .named) (ap (λ (x : Meta). x .slot) (live-at t i (s .at)) ∙ sym q)
+
+    same : (m : List ℕ) → dataOf m e ≡ dataOf m (metaAt t i)
+    same m = rw (q, n)
+
+    hashed-at : (m : List ℕ) → Kept t m → metaAt t i .hash ≡ hash16 (dataOf m (metaAt t i))
+    hashed-at m g = rw (live-at t i (s .at)) at (all-at (λ (e : Meta). e .hash ≡ hash16 (dataOf m e)) blank (live t) i (g .hashed) b)
+
+-- ---- one entry read, one carried up
+
+pub meta-read : (t : Table) (i : ℕ) → Arranged t → i < t .count → Read t i (metaAt t i)
+meta-read t i k p =
+    let f : FitMeta (metaAt t i) = rw (live-at t i p) at (all-at FitMeta blank (live t) i (k .fit) (rw (live-length t k) p)) in
+    record { same = refl; long = refl; low = f .0; short = f .1 }
+
+-- ---- what the functions leave
+
+module _ (t r : Table) (m m′ d : List ℕ) (i id seq age since len slot : ℕ) (hash : List ℕ) (k : Kept t m) (l : length d ≤ dataLimit) (n : len ≡ length d) (h : hash ≡ hash16 d) (w : m′ ≡ written m (slot * dataLimit) d) where
+  pub replaced : (old : Meta) → Read t i old → slot ≡ old .slot → Stands t id i
+      → r ≡ withMeta t i (record { id = id; seq = seq; age = age; since = since; len = len; slot = slot; hash = hash })
+      → Stored (entryOf id seq d age since) t m i r m′
+  replaced old o q s e =
+      rw (w, e) (stored-over t m (record { id = id; seq = seq; age = age; since = since; len = len; slot = slot; hash = hash }) d i k s (q ∙ ap (λ (x : Meta). x .slot) (o .same)) n l h)
+
+  pub added : t .count < 32 → Gap t id i → slot < 32 → Free slot (live t)
+      → r ≡ inserted t i (record { id = id; seq = seq; age = age; since = since; len = len; slot = slot; hash = hash })
+      → Stored (entryOf id seq d age since) t m i r m′
+  added p g s f e = rw (w, e) (stored-new t m (record { id = id; seq = seq; age = age; since = since; len = len; slot = slot; hash = hash }) d i k p g s f n l h)
+
+-- data changed in place, and the digest taken from there
+module _ (t r : Table) (m m′ : List ℕ) (i id seq since p len : ℕ) (hash : List ℕ) (old : Meta) (k : Kept t m) (s : Stands t id i) (o : Read t i old)
+    (h : hash ≡ hash16 (take (old .slot * dataLimit + len - old .slot * dataLimit) (drop (old .slot * dataLimit) m′)))
+    (e : r ≡ withMeta t i (record { id = id; seq = seq; age = 0; since = since; len = len; slot = old .slot; hash = hash })) where
+  edited : (d : List ℕ) → length d ≡ len → len ≤ dataLimit → m′ ≡ written m (old .slot * dataLimit) d → Stored (entryOf id seq d 0 since) t m i r m′
+  edited d n l w =
+      replaced t r m m′ d i id seq 0 since len (old .slot) hash k (omega arith) (sym n)
+      (h ∙ ap hash16 (part-there m m′ d (old .slot * dataLimit) (old .slot * dataLimit + len - old .slot * dataLimit) w (omega arith) (omega (arith, o .low, k .room)))) w old o refl s e
+
+  pub spliced-in : (b : List ℕ) → p ≤ metaAt t i .len → metaAt t i .len + length b ≤ dataLimit → len ≡ old .len + length b
+      → m′ ≡ written m (old .slot * dataLimit) (spliced (part m (old .slot * dataLimit) (old .len)) p b)
+      → Stored (entryOf id seq (spliced (dataOf m (metaAt t i)) p b) 0 since) t m i r m′
+  spliced-in b p′ q l w =
+      let z : length (spliced (part m (old .slot * dataLimit) (old .len)) p b) ≡ old .len + length b = spliced-length m (old .slot * dataLimit) (old .len) p (omega (arith, o .low, o .short, k .room)) b (omega (arith, o .long)) in
+      subst (λ (x : Meta). Stored (entryOf id seq (spliced (dataOf m x) p b) 0 since) t m i r m′) (o .same)
+      (edited (spliced (part m (old .slot * dataLimit) (old .len)) p b) (z ∙ sym l) (omega (arith, o .long)) w)
+
+  pub cut-out : (n : ℕ) → p + n ≤ metaAt t i .len → len ≡ old .len - n
+      → m′ ≡ written m (old .slot * dataLimit) (cut (part m (old .slot * dataLimit) (old .len)) p n)
+      → Stored (entryOf id seq (cut (dataOf m (metaAt t i)) p n) 0 since) t m i r m′
+  cut-out n q l w =
+      let z : length (cut (part m (old .slot * dataLimit) (old .len)) p n) ≡ old .len - n = cut-length m (old .slot * dataLimit) (old .len) p (omega (arith, o .low, o .short, k .room)) n (omega (arith, o .long)) in
+      subst (λ (x : Meta). Stored (entryOf id seq (cut (dataOf m x) p n) 0 since) t m i r m′) (o .same)
+      (edited (cut (part m (old .slot * dataLimit) (old .len)) p n) (z ∙ sym l) (omega (arith, o .short)) w)
+
+pub renumbered-by : (t r : Table) (i id seq age since : ℕ) (old : Meta) → Arranged t → Stands t id i → Read t i old
+    → r ≡ withMeta t i (record { id = id; seq = seq; age = age; since = since; len = old .len; slot = old .slot; hash = old .hash }) → Renumbered id seq age since t i r
+renumbered-by t r i id seq age since old k s o e =
+    rw e
+    (renumbered t (record { id = id; seq = seq; age = age; since = since; len = old .len; slot = old .slot; hash = old .hash }) i k s
+    (ap (λ (x : Meta). x .slot) (o .same)) (ap (λ (x : Meta). x .len) (o .same)) (ap (λ (x : Meta). x .hash) (o .same)))
+
+pub data-read : (t : Table) (m : List ℕ) (i : ℕ) (old : Meta) → Read t i old
+    → (take (old .slot * dataLimit + old .len - old .slot * dataLimit) (drop (old .slot * dataLimit) m) ≡ dataOf m (metaAt t i)) × (old .slot ≡ metaAt t i .slot)
+data-read t m i old o =
+    let e : old .slot * dataLimit + old .len - old .slot * dataLimit ≡ old .len = omega arith in (rw e (ap (dataOf m) (o .same)), ap (λ (x : Meta). x .slot) (o .same))
+
+pub length-mapped : {X Y : Type 0} (f : X → Y) (l : List X) (n : ℕ) → length (map f l) ≡ n → length l ≡ n
+length-mapped f l n p = sym (length-map l f) ∙ p
+
+-- ---- a free slot
+
+In-at : (l : List Meta) (k : ℕ) → k < length l → In (getD l k blank .slot) (map (λ (e : Meta). e .slot) l)
+In-at [] k p = absurd (not-suc-le-zero p)
+In-at (e ∷ l) zero p = inl refl
+In-at (e ∷ l) (suc k) p = inr (In-at l k (le-of-suc-le-suc p))
+
+pub all-used : (t : Table) (n : ℕ) → Arranged t → t .count < n → ((u : ℕ) → u < n → SlotUsed t u true) → ⊥
+all-used t n k p f =
+    let l : n ≤ length (map (λ (e : Meta). e .slot) (live t)) =
+    pigeons n (map (λ (e : Meta). e .slot) (live t))
+    (λ u q. let w = f u q in
+    subst (λ (z : ℕ). In z (map (λ (e : Meta). e .slot) (live t))) (ap (λ (e : Meta). e .slot) (live-at t (w .0) (w .1 .0)) ∙ w .1 .1) (In-at (live t) (w .0) (rw (live-length t k) (w .1 .0)))) in
+    omega (arith, length-map (live t) (λ (e : Meta). e .slot), live-length t k)
+
+free-from : (s : ℕ) (l : List Meta) → ((k : ℕ) → k < length l → ¬ (getD l k blank .slot ≡ s)) → Free s l
+free-from s [] f = tt
+free-from s (e ∷ l) f = (f 0 (suc-le-suc zero-le), free-from s l (λ k p. f (suc k) (suc-le-suc p)))
+
+pub unused-free : (t : Table) (s : ℕ) → Arranged t → SlotUsed t s false → Free s (live t)
+unused-free t s k f = free-from s (live t) (λ j p. let q : j < t .count = rw (live-length t k) at p in rw (live-at t j q) (f j q))
+
+-- the search for a slot goes on
+module _ (l : List Meta) (i : ℕ) (d : Meta) (x : ℕ) (h : i < length l) where
+  pub slot-is : getD l i d .slot ≡ x → getD l i blank .slot ≡ x
+  slot-is e = ap (λ (r : Meta). r .slot) (getD-any l i blank d h) ∙ e
+
+  pub slots-differ : ¬ (getD l i d .slot ≡ x) → ((k : ℕ) → k < i → ¬ (getD l k blank .slot ≡ x)) → (k : ℕ) → k < i + 1 → ¬ (getD l k blank .slot ≡ x)
+  slots-differ n f k q =
+      by-order k i (λ r. f k r) (λ r. rw r (λ z. n (ap (λ (r : Meta). r .slot) (getD-any l i d blank h) ∙ z))) (λ r. absurd (omega arith))
+
+pub slots-used : (t : Table) (s : ℕ) → SlotUsed t s true → ((u : ℕ) → u < s → SlotUsed t u true) → (u : ℕ) → u < s + 1 → SlotUsed t u true
+slots-used t s w f u p = by-order u s (λ q. f u q) (λ q. rw q w) (λ q. absurd (omega arith))
+
+pub store-on : (n n₀ : Table) (x y : List Meta) (j : ℕ) (v : Meta) → n ≡ withEntries n₀ x → set x j v ≡ y → withEntries n (set (n .entries) j v) ≡ withEntries n₀ y
+store-on n n₀ x y j v p q = rw p (rw q)
+
+pub store-end : (n n₀ : Table) (x y : List Meta) (j k : ℕ) (v : Meta) → n ≡ withEntries n₀ x → set x j v ≡ y → _≡_ {A = Table} (record { count = k; entries = set (n .entries) j v }) (record { count = k; entries = y })
+store-end n n₀ x y j k v p q = rw p (rw q)
+
+-- ---- entries kept by mark
+
+above-keep : (n : ℕ) (bs : List Bool) (l : List Meta) → Above metaId n l → Above metaId n (keepBy bs l)
+above-keep n [] l h = tt
+above-keep n (b ∷ bs) [] h = tt
+above-keep n (true ∷ bs) (e ∷ l) h = (h .0, above-keep n bs l (h .1))
+above-keep n (false ∷ bs) (e ∷ l) h = above-keep n bs l (h .1)
+
+ascending-keep : (bs : List Bool) (l : List Meta) → Ascending metaId l → Ascending metaId (keepBy bs l)
+ascending-keep [] l h = tt
+ascending-keep (b ∷ bs) [] h = tt
+ascending-keep (true ∷ bs) (e ∷ l) h = (above-keep (e .id) bs l (h .0), ascending-keep bs l (h .1))
+ascending-keep (false ∷ bs) (e ∷ l) h = ascending-keep bs l (h .1)
+
+apart-keep : (bs : List Bool) (l : List Meta) → Apart l → Apart (keepBy bs l)
+apart-keep [] l h = tt
+apart-keep (b ∷ bs) [] h = tt
+apart-keep (true ∷ bs) (e ∷ l) h = (all-keep-by (λ (y : Meta). ¬ (y .slot ≡ e .slot)) bs l (h .0), apart-keep bs l (h .1))
+apart-keep (false ∷ bs) (e ∷ l) h = apart-keep bs l (h .1)
+
+seen-keep : (m : List ℕ) (bs : List Bool) (l : List Meta) → map (seen m) (keepBy bs l) ≡ keepBy bs (map (seen m) l)
+seen-keep m [] l = refl
+seen-keep m (b ∷ bs) [] = refl
+seen-keep m (true ∷ bs) (e ∷ l) = ap (λ (z : List Entry). seen m e ∷ z) (seen-keep m bs l)
+seen-keep m (false ∷ bs) (e ∷ l) = seen-keep m bs l
+
+pub purged : (bs : List Bool) (t r : Table) → Arranged t → r .count ≤ 32 → length (r .entries) ≡ 32 → live r ≡ keepBy bs (live t) → Purged bs t r
+unfolding view
+purged bs t r k most wide q = record { arranged = arranged; kept = λ m g. record { arranged = arranged; room = g .room; hashed = rw q (all-keep-by (λ (e : Meta). e .hash ≡ hash16 (dataOf m e)) bs (live t) (g .hashed)) }; viewed = viewed }
+  where
+    arranged : Arranged r
+    arranged =
+        record {
+          most = most;
+          wide = wide;
+          ascending = rw q (ascending-keep bs (live t) (k .ascending));
+          fit = rw q (all-keep-by FitMeta bs (live t) (k .fit));
+          apart = rw q (apart-keep bs (live t) (k .apart));
+        }
+
+    viewed : (m : List ℕ) → view r m ≡ keepBy bs (view t m)
+    viewed m = rw q (seen-keep m bs (live t))
+
+-- one entry passed
+pub keep-step : (bs : List Bool) (l ns : List Meta) (i j : ℕ) → i < length bs → i < length l → j < length ns
+    → take j ns ++ keepBy (drop i bs) (drop i l) ≡ take (cond (getD bs i false) (j + 1) j) (set ns j (getD l i blank)) ++ keepBy (drop (i + 1) bs) (drop (i + 1) l)
+keep-step bs l ns i j p q r = rw (add-one i, drop-cons bs i false p, drop-cons l i blank q) (sym (go (getD bs i false)))
+  where
+    go : (b : Bool) → take (cond b (j + 1) j) (set ns j (getD l i blank)) ++ keepBy (drop (suc i) bs) (drop (suc i) l) ≡ take j ns ++ cond b (getD l i blank ∷ keepBy (drop (suc i) bs) (drop (suc i) l)) (keepBy (drop (suc i) bs) (drop (suc i) l))
+    go true = rw (add-one j, take-suc-set ns j (getD l i blank) r) (append-snoc (take j ns) (getD l i blank) (keepBy (drop (suc i) bs) (drop (suc i) l)))
+    go false = rw (take-set-le j ns j (getD l i blank) (omega arith))
+
+keep-none : (bs : List Bool) → keepBy {A = Meta} bs [] ≡ []
+keep-none [] = refl
+keep-none (b ∷ bs) = refl
+
+pub keep-end : (bs : List Bool) (l ns : List Meta) (i j : ℕ) → length l ≤ i → take j ns ++ keepBy (drop i bs) (drop i l) ≡ take j ns
+keep-end bs l ns i j p = rw (drop-of-length-le l {i = i} p, keep-none (drop i bs)) (append-nil (take j ns))
+
+pub cond-most : (b : Bool) (j i : ℕ) → j ≤ i → cond b (j + 1) j ≤ i + 1
+cond-most true j i p = omega arith
+cond-most false j i p = omega arith
+
+-- marks by place are a test
+pub keep-by-test : (p : Entry → Bool) (d : Entry) (bs : List Bool) (l : List Entry) → length l ≤ length bs → ((i : ℕ) → i < length l → getD bs i false ≡ p (getD l i d)) → keepBy bs l ≡ keep p l
+keep-by-test p d [] [] n f = refl
+keep-by-test p d [] (e ∷ l) n f = absurd (not-suc-le-zero n)
+keep-by-test p d (b ∷ bs) [] n f = refl
+keep-by-test p d (b ∷ bs) (e ∷ l) n f =
+    let q : b ≡ p e = f 0 (suc-le-suc zero-le) in
+    let r : keepBy bs l ≡ keep p l = keep-by-test p d bs l (le-of-suc-le-suc n) (λ i k. f (suc i) (suc-le-suc k)) in
+    rw (q, r)
+
+pub keep-on : (bs : List Bool) (t : Table) (ns : List Meta) (i j k : ℕ) → i < length bs → Arranged t → i < t .count → j < length ns → k ≡ cond (getD bs i false) (j + 1) j
+    → keepBy bs (live t) ≡ take j ns ++ keepBy (drop i bs) (drop i (live t)) → keepBy bs (live t) ≡ take k (set ns j (metaAt t i)) ++ keepBy (drop (i + 1) bs) (drop (i + 1) (live t))
+keep-on bs t ns i j k p w q r e h =
+    h ∙ keep-step bs (live t) ns i j p (rw (live-length t w) q) r ∙ rw (e, live-at t i q)
+
+-- ---- found, in the model
+
+above-none : (n : ℕ) (l : List Entry) → Above idOf n l → find idOf n l ≡ none
+unfolding find
+above-none n [] h = refl
+above-none n (x ∷ l) h = find-no idOf n x l (omega arith) ∙ above-none n l (h .1)
+
+gap-none : (n : ℕ) (l : List Meta) (i : ℕ) (m : List ℕ) → Ascending metaId l → ((j : ℕ) → j < i → j < length l → getD l j blank .id < n) → (i < length l → n < getD l i blank .id) → find idOf n (map (seen m) l) ≡ none
+unfolding find
+gap-none n [] i m a f g = refl
+gap-none n (x ∷ l) zero m a f g =
+    let p : n < x .id = g (suc-le-suc zero-le) in
+    find-no idOf n (seen m x) (map (seen m) l) (omega arith) ∙ above-none n (map (seen m) l) (above-seen m n l (above-less metaId l (omega arith) (a .0)))
+gap-none n (x ∷ l) (suc i) m a f g =
+    let p : x .id < n = f 0 (suc-le-suc zero-le) (suc-le-suc zero-le) in
+    find-no idOf n (seen m x) (map (seen m) l) (omega arith) ∙ gap-none n l i m (a .1) (λ j q r. f (suc j) (suc-le-suc q) (suc-le-suc r)) (λ q. g (suc-le-suc q))
+
+module _ (t : Table) (k : Arranged t) where
+  pub look-gap : (id i : ℕ) (m : List ℕ) → Gap t id i → look id (view t m) ≡ none
+  unfolding look view
+  look-gap id i m g =
+      gap-none id (live t) i m (k .ascending) (λ j p q. rw (live-at t j (rw (live-length t k) at q)) (g .below j p))
+      (λ p. rw (live-at t i (rw (live-length t k) at p)) (g .above (rw (live-length t k) at p)))
+
+  pub look-stands : (id i : ℕ) (m : List ℕ) → Stands t id i → look id (view t m) ≡ some (seen m (metaAt t i))
+  unfolding look view
+  look-stands id i m s =
+      let b : i < length (live t) = rw (live-length t k) (s .at) in
+      let l : i < length (map (seen m) (live t)) = rw (length-map (live t) (seen m)) b in
+      let e : getD (map (seen m) (live t)) i (seen m blank) ≡ seen m (metaAt t i) = List·getD-map (seen m) (live t) i blank ∙ ap (seen m) (live-at t i (s .at)) in
+      find-at idOf (seen m blank) id (map (seen m) (live t)) i (seen-ascending m (live t) (k .ascending)) l (ap idOf e ∙ s .named) ∙ ap some e
+
+  pub view-length : (m : List ℕ) → length (view t m) ≡ t .count
+  unfolding view
+  view-length m = length-map (live t) (seen m) ∙ live-length t k
+
+  pub view-at : (m : List ℕ) (i : ℕ) → i < t .count → getD (view t m) i (seen m blank) ≡ seen m (metaAt t i)
+  unfolding view
+  view-at m i p = List·getD-map (seen m) (live t) i blank ∙ ap (seen m) (live-at t i p)
+
+  -- what holds of every entry holds of the one at place i
+  pub view-each : (P : Entry → Type 0) (m : List ℕ) (i : ℕ) → All P (view t m) → i < t .count → P (seen m (metaAt t i))
+  view-each P m i h p = subst P (view-at m i p) (all-at P (seen m blank) (view t m) i h (rw (view-length m) p))
+
+  pub view-ascending : (m : List ℕ) → Ascending idOf (view t m)
+  unfolding view
+  view-ascending m = seen-ascending m (live t) (k .ascending)
+
+pub data-length : (t : Table) (m : List ℕ) (i : ℕ) → Kept t m → i < t .count → (length (dataOf m (metaAt t i)) ≡ metaAt t i .len) × (metaAt t i .len ≤ dataLimit)
+data-length t m i k p =
+    let f : Read t i (metaAt t i) = meta-read t i (k .arranged) p in
+    (part-length m (metaAt t i .slot * dataLimit) (metaAt t i .len) (omega (arith, f .low, f .short, k .room)), f .short)
+
+-- an empty table
+pub none-held : (m : List ℕ) (l : List Meta) → tableBytes ≤ length m → length l ≡ mostNodes → Kept (record { count = 0; entries = l }) m × (view (record { count = 0; entries = l }) m ≡ [])
+unfolding view
+none-held m l h n =
+    (record { arranged = record { most = omega arith; wide = n; ascending = tt; fit = tt; apart = tt }; room = h; hashed = tt }, refl)
+
+pub begun : (own clock : ℕ) (hash m : List ℕ) (l : List Meta) → tableBytes ≤ length m → hash ≡ hash16 [] → length l ≡ 31
+    → Kept (record { count = 1; entries = record { id = own; seq = 0; age = 0; since = clock; len = 0; slot = 0; hash = hash } ∷ l }) m
+    × (view (record { count = 1; entries = record { id = own; seq = 0; age = 0; since = clock; len = 0; slot = 0; hash = hash } ∷ l }) m ≡ entryOf own 0 [] 0 clock ∷ [])
+unfolding view
+begun own clock hash m l r h n =
+    (record { arranged = record { most = omega arith; wide = omega arith; ascending = (tt, tt); fit = ((omega arith, omega arith), tt); apart = (tt, tt) }; room = r; hashed = (h, tt) }, refl)
+
+-- what holds of every entry of the model's table
+pub all-stored : (P : Entry → Type 0) (e : Entry) (t r : Table) (m m′ : List ℕ) (i : ℕ) → Stored e t m i r m′ → P e → All P (view t m) → All P (view r m′)
+unfolding put
+all-stored P e t r m m′ i s p h = rw (s .viewed) (all-insert P idOf e (view t m) p h)
+
+-- the digest kept with an entry is that of its data
+pub meta-hashed : (t : Table) (m : List ℕ) (i : ℕ) → Kept t m → i < t .count → metaAt t i .hash ≡ hash16 (dataOf m (metaAt t i))
+meta-hashed t m i k p =
+    subst (λ (e : Meta). e .hash ≡ hash16 (dataOf m e)) (live-at t i p)
+    (all-at (λ (e : Meta). e .hash ≡ hash16 (dataOf m e)) blank (live t) i (k .hashed) (rw (live-length t (k .arranged)) p))
+
+-- what a search found, by its answer
+module _ (t : Table) (id i : ℕ) (f : Found) where
+  pub stands-of : f ≡ At i → Finding t id f → Stands t id i
+  stands-of e h = subst (λ (x : Found). Finding t id x) e h
+
+  pub gap-of : f ≡ Missing i → Finding t id f → Gap t id i
+  gap-of e h = subst (λ (x : Found). Finding t id x) e h
