@@ -31,10 +31,9 @@ use Rattle.table.specs.View.{view}
 use Rattle.reach.specs.declared.Reached.{Reached}
 use Rattle.reach.specs.Marks.{Readable, Reaching}
 use Rattle.node.specs.declared.State.{State}
-use Rattle.node.specs.View.{stateOf, Held, Moved, Settled}
-use Rattle.node.proofs.Moves.{moved-to}
+use Rattle.node.specs.View.{stateOf, Held, Published, Settled}
 use Rattle.accounts.specs.Tallied.{paymentOf}
-use Rattle.accounts.proofs.Steps.{moved-readable, moved-settled}
+use Rattle.accounts.proofs.Steps.{moved-readable, published-settled}
 
 -- ---- our data
 
@@ -50,15 +49,15 @@ module _ (clock : ℕ) (p : Payment) (s : ModelState) where
 
 -- ---- the payment's TLV as the code writes it: to the front of d, which becomes d′, in n bytes
 
-abbrev Wrote : List ℕ → List ℕ → ℕ → Payment → Type 0
-Wrote d d′ n p = (d′ ≡ written d 0 (paymentTlv p)) × (n ≡ length (paymentTlv p)) × (n ≤ 20)
+abbrev Written : List ℕ → List ℕ → ℕ → Payment → Type 0
+Written d d′ n p = (d′ ≡ written d 0 (paymentTlv p)) × (n ≡ length (paymentTlv p)) × (n ≤ 20)
 
 module _ (household receipt : ℕ) (amount : ℤ) (small : SFits w32 amount) (d d′ : List ℕ) (n : ℕ) (room : 20 ≤ length d)
-    (h : Wrote d d′ n (paymentOf household receipt (toZ w32 (ofZ w32 amount)))) where
+    (h : Written d d′ n (paymentOf household receipt (toZ w32 (ofZ w32 amount)))) where
   abbrev p : Payment
   p = paymentOf household receipt amount
 
-  wrote : Wrote d d′ n p
+  wrote : Written d d′ n p
   wrote = rw (narrow-back w32 amount small) at h
 
   written-tlv : take n d′ ≡ paymentTlv p
@@ -88,15 +87,15 @@ module _ (household receipt : ℕ) (amount : ℤ) (small : SFits w32 amount) (d 
   -- ---- published and settled
 
   module _ (clock : ℕ) (s : State) (m : List ℕ) (old seq : ℕ) (eo : old ≡ ownSeq (stateOf s m)) (es : seq ≡ advance old 1) (r : State) (m′ : List ℕ)
-      (g : Moved (publishAs clock seq (withTlv (take n d′) (ownData (stateOf s m))) (stateOf s m)) m r m′) where
-    paid-moved : Moved (published clock p (stateOf s m)) m r m′
-    paid-moved = moved-to g (rw (es, eo, written-tlv))
+      (g : Published (publishAs clock seq (withTlv (take n d′) (ownData (stateOf s m))) (stateOf s m)) s m r m′) where
+    paid-published : Published (published clock p (stateOf s m)) s m r m′
+    paid-published = subst (λ (x : ModelState). Published x s m r m′) (rw (es, eo, written-tlv)) g
 
     pub paid-readable : Midway clock (stateOf s m) → among (paymentTlv p) (tlvs (ownData (stateOf s m))) ≡ false
         → length (ownData (stateOf s m)) + length (paymentTlv p) ≤ dataLimit → clock ≤ lastReading → Readable clock (r .table) m′ × Held r m′
-    paid-readable w a l t = moved-readable paid-moved (published-midway clock p (stateOf s m) w a l) t
+    paid-readable w a l t = moved-readable (paid-published .moved) (published-midway clock p (stateOf s m) w a l) t
 
     pub paid-settled : (rs : List ℕ) (x : Reached) (q : State) → Reaching (r .own) clock (view (r .table) m′) x → Settled clock rs (x .digest) r q
-        → Moved (paid clock p rs (stateOf s m)) m q m′
+        → Published (paid clock p rs (stateOf s m)) s m q m′
     unfolding paid
-    paid-settled rs x q c e = moved-settled paid-moved rs x q c e
+    paid-settled rs x q c e = published-settled paid-published rs x q c e

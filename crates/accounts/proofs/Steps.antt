@@ -10,15 +10,15 @@ use Rattle.model.specs.Pay.{purged}
 use Rattle.model.specs.Invariant.{Midway}
 use Rattle.model.proofs.KeptCalls.{reached-kept}
 use Rattle.table.specs.declared.Table.{Table}
-use Rattle.table.specs.View.{view, Purged}
+use Rattle.table.specs.View.{view, SlotsStay, Purged}
 use Rattle.reach.specs.declared.Reached.{Reached}
 use Rattle.reach.specs.Marks.{Readable, Reaching}
 use Rattle.reach.proofs.Nodes.{fits-readable}
 use Rattle.reach.proofs.Reaching.{reached-by}
 use Rattle.node.specs.declared.State.{State}
-use Rattle.node.specs.View.{stateOf, Rep, Held, Moved, Settled}
+use Rattle.node.specs.View.{stateOf, Rep, Held, Moved, Published, Settled}
 use Rattle.node.proofs.Parts.{putTable}
-use Rattle.node.proofs.Moves.{moved-to, moved-then, purged-moved}
+use Rattle.node.proofs.Moves.{moved-to, moved-then, published-then, purged-moved}
 use Rattle.node.proofs.Settling.{settled-moved}
 
 -- within a call the marking may read the table, and our own node stands there
@@ -34,6 +34,11 @@ module _ {clock : ℕ} {a : ModelState} {m : List ℕ} {r : State} {m′ : List 
   pub moved-settled : (rs : List ℕ) (x : Reached) (q : State) → Reaching (r .own) clock (view (r .table) m′) x → Settled clock rs (x .digest) r q → Moved (settle clock rs a) m q m′
   moved-settled rs x q g s = moved-then h (settle clock rs) (settled-moved clock rs (x .digest) r q m′ s (h .rep) (g .digest))
 
+pub published-settled : {clock : ℕ} {a : ModelState} {s : State} {m : List ℕ} {r : State} {m′ : List ℕ} → Published a s m r m′ → (rs : List ℕ) (x : Reached) (q : State)
+    → Reaching (r .own) clock (view (r .table) m′) x → Settled clock rs (x .digest) r q → Published (settle clock rs a) s m q m′
+published-settled {clock} {r = r} {m′ = m′} h rs x q g s =
+    published-then (settle clock rs) h (s .table) (settled-moved clock rs (x .digest) r q m′ s (h .moved .rep) (g .digest))
+
 -- ---- only the reachable nodes stay
 
 module _ (clock : ℕ) (s : State) (m : List ℕ) (k : Rep s m) (x : Reached) (g : Reaching (s .own) clock (view (s .table) m) x) (t : Table) (o : Purged (x .marks) (s .table) t) where
@@ -45,6 +50,6 @@ module _ (clock : ℕ) (s : State) (m : List ℕ) (k : Rep s m) (x : Reached) (g
   purged-readable w l = moved-readable purged-by (reached-kept clock (stateOf s m) w) l
 
   pub purged-settled : (rs : List ℕ) (y : Reached) (q : State) → Reaching (s .own) clock (view t m) y → Settled clock rs (y .digest) (putTable t s) q
-      → Moved (purged clock rs (stateOf s m)) m q m
+      → Moved (purged clock rs (stateOf s m)) m q m × SlotsStay (q .table) (s .table)
   unfolding purged
-  purged-settled rs y q f e = moved-settled purged-by rs y q f e
+  purged-settled rs y q f e = (moved-settled purged-by rs y q f e, subst (λ (z : Table). SlotsStay z (s .table)) (sym (e .table)) (o .slots))

@@ -22,7 +22,7 @@ ghost use Rattle.model.specs.Refusals.{firstOf, paidAlready, full};
 ghost use Rattle.model.specs.State.{ownData};
 ghost use Rattle.model.specs.Pay.{paid};
 ghost use Rattle.model.specs.Invariant.{Midway};
-ghost use Rattle.node.specs.View.{stateOf, Rep, Moved};
+ghost use Rattle.node.specs.View.{stateOf, Rep, Published};
 ghost use Rattle.accounts.specs.Tallied.{paymentOf};
 
 // 8 if this very payment stands in our data, 9 if it does not fit there, else 0.
@@ -54,7 +54,7 @@ pub fn pay(
     randoms: [u32; 4],
 ) -> State
     requires { ⌜ Rep s (now mem) × (Midway clock (stateOf s (now mem)) × ((clock ≤ lastReading) × ((among (paymentTlv (paymentOf household receipt amount)) (tlvs (ownData (stateOf s (now mem)))) ≡ false) × (length (ownData (stateOf s (now mem))) + length (paymentTlv (paymentOf household receipt amount)) ≤ dataLimit)))) ⌝ }
-    ensures { λ r. ⌜ Moved (paid clock (paymentOf household receipt amount) randoms (stateOf s (now (mem .entry)))) (now (mem .entry)) r (now (mem .exit)) ⌝ }
+    ensures { λ r. ⌜ Published (paid clock (paymentOf household receipt amount) randoms (stateOf s (now (mem .entry)))) s (now (mem .entry)) r (now (mem .exit)) ⌝ }
 {
     let mut tlv = [0u8; 20];
     let n = put_payment(&mut tlv, household, receipt, amount);

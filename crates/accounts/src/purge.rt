@@ -6,11 +6,12 @@ ghost use Prim.Native.Nat.{_≤_};
 ghost use Rattle.model.specs.Figures.{lastReading};
 ghost use Rattle.model.specs.Pay.{purged};
 ghost use Rattle.model.specs.Invariant.{Midway};
+ghost use Rattle.table.specs.View.{SlotsStay};
 ghost use Rattle.node.specs.View.{stateOf, Rep, Moved};
 
 pub fn purge(s: State, mem: &[u8], clock: u64, randoms: [u32; 4]) -> State
     requires { ⌜ Rep s (now mem) × (Midway clock (stateOf s (now mem)) × (clock ≤ lastReading)) ⌝ }
-    ensures { λ r. ⌜ Moved (purged clock randoms (stateOf s (now (mem .entry)))) (now (mem .entry)) r (now (mem .entry)) ⌝ }
+    ensures { λ r. ⌜ Moved (purged clock randoms (stateOf s (now (mem .entry)))) (now (mem .entry)) r (now (mem .entry)) × SlotsStay (r .table) (s .table) ⌝ }
 {
     let found = reach(s.table, mem, s.own, clock);
     let marks = found.marks;

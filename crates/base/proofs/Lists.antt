@@ -100,6 +100,12 @@ all-keep-by P (b ∷ bs) [] h = tt
 all-keep-by P (true ∷ bs) (e ∷ l) h = (h .0, all-keep-by P bs l (h .1))
 all-keep-by P (false ∷ bs) (e ∷ l) h = all-keep-by P bs l (h .1)
 
+pub in-keep-by : {A : Type 0} (bs : List Bool) (l : List A) (x : A) → In x (keepBy bs l) → In x l
+in-keep-by [] l x h = absurd h
+in-keep-by (b ∷ bs) [] x h = absurd h
+in-keep-by (true ∷ bs) (y ∷ l) x h = ⊎-elim inl (λ i. inr (in-keep-by bs l x i)) h
+in-keep-by (false ∷ bs) (y ∷ l) x h = inr (in-keep-by bs l x h)
+
 -- ---- mapped and joined lists
 
 module _ {A B : Type 0} (f : A → B) where

@@ -38,7 +38,7 @@ fn move_up(mem: &mut [u8], at: usize, n: usize, by: usize)
 }
 
 // The n bytes from `at + by` move down to `at`.
-fn move_down(mem: &mut [u8], at: usize, n: usize, by: usize)
+pub fn move_down(mem: &mut [u8], at: usize, n: usize, by: usize)
     requires { ⌜ at + by + n ≤ length (now mem) ⌝ }
     ensures { λ r. ⌜ now (mem .exit) ≡ written (now (mem .entry)) at (part (now (mem .entry)) (at + by) n) ⌝ }
 {

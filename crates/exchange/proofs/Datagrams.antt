@@ -10,22 +10,24 @@ use Rattle.base.specs.Bytes.{Bytes}
 use Rattle.base.proofs.Tests.{no-way}
 use Rattle.wire.specs.Row.{tlvs}
 use Rattle.model.specs.Figures.{mostBytes, lastReading}
+use Rattle.model.specs.Table.{Entry}
 use Rattle.model.specs.Digest.{networkDigest}
 use Rattle.model.specs.State.{State as ModelState, settle}
-use Rattle.model.specs.Handle.{Context as ModelContext, Work as ModelWork, allTlvs}
+use Rattle.model.specs.Handle.{Context as ModelContext, Work as ModelWork, allTlvs, eachTable}
 use Rattle.model.specs.Receive.{Answer, aboutOther, contextOf as callContext, startOf, handled, answered}
 use Rattle.model.specs.Invariant.{Midway}
 use Rattle.model.proofs.KeptReceive.{handled-kept}
-use Rattle.table.specs.View.{view}
+use Rattle.table.specs.View.{view, Wrote}
+use Rattle.table.specs.declared.Table.{Table}
 use Rattle.reach.specs.declared.Reached.{Reached}
 use Rattle.node.specs.declared.State.{State}
 use Rattle.node.specs.View.{stateOf, Rep, Settled}
 use Rattle.node.proofs.Parts.{state-own}
 use Rattle.reply.specs.declared.Context.{Context}
 use Rattle.reply.specs.declared.Work.{Work}
-use Rattle.reply.specs.View.{contextOf, workOf, Ready, Stepped, Markable}
+use Rattle.reply.specs.View.{contextOf, workOf, Ready, Markable}
 use Rattle.reply.proofs.Steps.{work-state, work-out, work-omitted, work-dropped}
-use Rattle.exchange.specs.Datagram.{callOf, Handled}
+use Rattle.exchange.specs.Datagram.{callOf, Ran, tablesOf, Handled}
 
 -- no sender, nothing written, marks and digest not worked out
 abbrev pub firstWork : State → Reached → Work
@@ -54,7 +56,7 @@ same-answer : {s s′ : ModelState} {b b′ : List ℕ} {o o′ d d′ : ℕ} �
 same-answer e1 e2 e3 e4 = cc
 
 module _ (s : State) (m r d : List ℕ) (clock endpoint : ℕ) (unicast others : Bool) (g : Reached) (e : others ≡ any (aboutOther (s .own)) (tlvs d)) (v : Work) (m′ r′ : List ℕ)
-    (p : Stepped (contextIn clock endpoint unicast others) 200000 (allTlvs (contextOf (contextIn clock endpoint unicast others)) (tlvs d)) (firstWork s g) m r v m′ r′) (randoms : List ℕ) where
+    (p : Ran (contextIn clock endpoint unicast others) (tlvs d) (firstWork s g) m r v m′ r′) (randoms : List ℕ) where
   first-start : workOf (firstWork s g) m r ≡ startOf (stateOf s m)
   unfolding workOf
   first-start = refl
@@ -68,6 +70,14 @@ module _ (s : State) (m r d : List ℕ) (clock endpoint : ℕ) (unicast others :
   handled-is =
       p .is ∙ ap (λ (x : ModelContext). allTlvs x (tlvs d) (workOf (firstWork s g) m r)) same-context
       ∙ ap (allTlvs (callContext (stateOf s m) (callOf d clock endpoint unicast randoms (length m) (length r))) (tlvs d)) first-start
+
+  -- and so are the tables passed through
+  passed-is : Wrote (s .table) m (tablesOf (stateOf s m) (callOf d clock endpoint unicast randoms (length m) (length r))) (v .state .table) m′
+  passed-is =
+      subst (λ (es : List Entry). Wrote (s .table) m es (v .state .table) m′)
+      (ap (λ (x : ModelContext). eachTable x (tlvs d) (workOf (firstWork s g) m r)) same-context
+      ∙ ap (eachTable (callContext (stateOf s m) (callOf d clock endpoint unicast randoms (length m) (length r))) (tlvs d)) first-start)
+      (p .wrote)
 
   -- marks and digest can be worked out
   pub handled-markable : Bytes d → Midway clock (stateOf s m) → clock ≤ lastReading → 1 ≤ endpoint → endpoint ≤ 4 → Markable (contextIn clock endpoint unicast others) v m′
@@ -91,6 +101,7 @@ module _ (s : State) (m r d : List ℕ) (clock endpoint : ℕ) (unicast others :
           rep = k .rep m′ (p .sound .rep);
           is = same-answer settled-is (sym (work-out v m′ r′)) (sym (work-omitted v m′ r′)) (sym (work-dropped v m′ r′))
               ∙ ap (answered (callOf d clock endpoint unicast randoms (length m) (length r))) handled-is;
+          wrote = subst (λ (t : Table). Wrote (s .table) m (tablesOf (stateOf s m) (callOf d clock endpoint unicast randoms (length m) (length r))) t m′) (sym (k .table)) passed-is;
           used = p .sound .used;
           size = p .size;
           beyond = p .beyond;

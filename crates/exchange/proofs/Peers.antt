@@ -14,7 +14,7 @@ use Rattle.model.specs.State.{State as ModelState, withPeers, ownData, isPeer, 
 use Rattle.model.specs.Handle.{Sender as ModelSender, Work as ModelWork, withState, withSender, askNetwork, touchBy, touch, newPeer, roomForPeer, addPeer, greet, knows, onStranger, onEndpoint}
 use Rattle.model.proofs.Cases.{touch-none, touch-some, greet-room, greet-full, stranger-unicast, stranger-multicast, endpoint-own, endpoint-known, endpoint-stranger}
 use Rattle.node.specs.declared.State.{State}
-use Rattle.node.specs.View.{peersOf, stateOf, Moved}
+use Rattle.node.specs.View.{peersOf, stateOf, Moved, Published}
 use Rattle.node.proofs.Parts.{state-peers}
 use Rattle.node.proofs.Contacts.{peers-length}
 use Rattle.reply.specs.declared.Context.{Context}
@@ -80,7 +80,7 @@ module _ (c : Context) (w : Work) (m r : List ℕ) (h : Sound (c .clock) w m r) 
 
   -- a new peer
   pub greeted : w .state .peers .count < mostPeers → length (ownData (stateOf (w .state) m)) + peerBytes ≤ dataLimit → (s : State) (m′ : List ℕ)
-      → Moved (addPeer (c .clock) (newPeer (contextOf c) f) (stateOf (w .state) m)) m s m′ → Stepped c 1 (greet (contextOf c) f) w m r (putState s false w) m′ r
+      → Published (addPeer (c .clock) (newPeer (contextOf c) f) (stateOf (w .state) m)) (w .state) m s m′ → Stepped c 1 (greet (contextOf c) f) w m r (putState s false w) m′ r
   greeted p q s m′ k =
       stepped-more
       (stepped-anew h (greet (contextOf c) f) (addPeer (c .clock) (newPeer (contextOf c) f) (stateOf (w .state) m)) s m′ k

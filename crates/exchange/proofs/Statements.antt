@@ -23,10 +23,10 @@ use Rattle.table.specs.declared.Entry.{Entry as Meta}
 use Rattle.table.specs.View.{view, seen, dataOf, metaAt, Read, Stands, Gap, Stored, Renumbered}
 use Rattle.table.proofs.Tables.{meta-hashed}
 use Rattle.node.specs.declared.State.{State}
-use Rattle.node.specs.View.{stateOf, Held, Moved}
+use Rattle.node.specs.View.{stateOf, Held, Published}
 use Rattle.node.proofs.Parts.{state-held, putTable as tablePut}
 use Rattle.node.proofs.Own.{own-entry}
-use Rattle.node.proofs.Moves.{stored-moved, renumbered-moved}
+use Rattle.node.proofs.Moves.{stored-put, renumbered-put}
 use Rattle.decide.specs.declared.Decision.{Decision as Answer}
 use Rattle.decide.specs.declared.Decision.the-variants.{Ignored, Ask, Dropped}
 use Rattle.decide.specs.Decided.{decisionOf, Acts, Fine, Taken, Placed, HasRoom}
@@ -63,7 +63,7 @@ fine-rest v f h e = rw rest-is (f .0, e ∙ f .1)
 module _ (c : Context) (w : Work) (m r : List ℕ) (h : Sound (c .clock) w m r) where
   -- a step that puts an entry into the table
   entry-stepped : (f : ModelWork → ModelWork) (e : Entry) → f (workOf w m r) ≡ withState (withTable (put e (workOf w m r .state .table)) (workOf w m r .state)) (workOf w m r)
-      → (t : Table) (m′ : List ℕ) → Moved (withTable (put e (stateOf (w .state) m .table)) (stateOf (w .state) m)) m (tablePut t (w .state)) m′
+      → (t : Table) (m′ : List ℕ) → Published (withTable (put e (stateOf (w .state) m .table)) (stateOf (w .state) m)) (w .state) m (tablePut t (w .state)) m′
       → (v : Work) → v ≡ putTable t w → Stepped c 0 f w m r v m′ r
   entry-stepped f e q t m′ k v o =
       subst (λ (x : Work). Stepped c 0 f w m r x m′ r) (sym o)
@@ -76,7 +76,7 @@ module _ (c : Context) (w : Work) (m r : List ℕ) (h : Sound (c .clock) w m r) 
   number-taken i node seq age t o v q =
       let e : Entry = entryOf node seq (dataOf m (metaAt (w .state .table) i)) age (c .clock) in
       entry-stepped (carryOut (contextOf c) (ModelDecision.takeNumber e)) e (carry-number (contextOf c) (workOf w m r) e) t m
-      (renumbered-moved (w .state) m (h .rep) t node seq age (c .clock) i o) v q
+      (renumbered-put (w .state) m (h .rep) t node seq age (c .clock) i o) v q
 
   -- number, age and data, which stand at place i by then
   pub all-taken : (i node seq age : ℕ) (b : List ℕ) (t : Table) (m′ : List ℕ)
@@ -86,7 +86,7 @@ module _ (c : Context) (w : Work) (m r : List ℕ) (h : Sound (c .clock) w m r) 
       let e : Entry = entryOf node seq (drop 28 b) age (c .clock) in
       let k : Stored e (w .state .table) m i t m′ = rw rest-is at o in
       entry-stepped (carryOut (contextOf c) (ModelDecision.takeAll e)) e (carry-all (contextOf c) (workOf w m r) e) t m′
-      (stored-moved (w .state) m (h .rep) t e m′ i k) v q
+      (stored-put (w .state) m (h .rep) t e m′ i k) v q
 
 -- ---- our own node
 
@@ -117,7 +117,7 @@ module _ (c : Context) (w : Work) (m r v : List ℕ) (h : Sound (c .clock) w m r
       (sym (own-agrees (contextOf c) (workOf w m r) (receivedOf v) (sym own-differs ∙ not-true d n)))
 
   -- else it is published again, with a number that is newer
-  pub own-again : not d ≡ false → (n : ℕ) → n ≡ advance seq 1000 → (s′ : State) → Moved (publishAs (c .clock) n (ownData (stateOf (w .state) m)) (stateOf (w .state) m)) m s′ m
+  pub own-again : not d ≡ false → (n : ℕ) → n ≡ advance seq 1000 → (s′ : State) → Published (publishAs (c .clock) n (ownData (stateOf (w .state) m)) (stateOf (w .state) m)) (w .state) m s′ m
       → Stepped c 0 (onOwnState (contextOf c) (receivedOf v)) w m r (putState s′ false w) m r
   own-again k n z s′ x =
       stepped-anew h (onOwnState (contextOf c) (receivedOf v)) (publishAs (c .clock) n (ownData (stateOf (w .state) m)) (stateOf (w .state) m)) s′ m x

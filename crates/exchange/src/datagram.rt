@@ -20,14 +20,13 @@ ghost use Rattle.wire.specs.Row.{isRow, tlvs};
 ghost use Rattle.wire.specs.Answers.{Tells};
 ghost use Rattle.model.specs.Figures.{mostBytes, lastReading};
 ghost use Rattle.model.specs.Digest.{networkDigest};
-ghost use Rattle.model.specs.Handle.{allTlvs};
 ghost use Rattle.model.specs.Receive.{aboutOther};
 ghost use Rattle.model.specs.Invariant.{Midway};
 ghost use Rattle.table.specs.View.{view};
 ghost use Rattle.node.specs.View.{stateOf, Rep};
 ghost use Rattle.reach.specs.Marks.{tlvOf};
-ghost use Rattle.reply.specs.View.{contextOf, Ready, Stepped, Markable};
-ghost use Rattle.exchange.specs.Datagram.{Handled};
+ghost use Rattle.reply.specs.View.{Ready, Markable};
+ghost use Rattle.exchange.specs.Datagram.{Ran, Handled};
 
 // The TLV is a Node State, long enough, about another node.
 fn is_other(s: &[u8], at: usize, h: Header, own: u32) -> bool
@@ -63,7 +62,7 @@ fn has_other(s: &[u8], own: u32) -> bool
 // The TLVs one after the other. One that changes nothing is skipped: the work is large, and a step copies it.
 fn all_tlvs(w: Work, mem: &mut [u8], room: &mut [u8], c: Context, datagram: &[u8]) -> Work
     requires { ⌜ Ready c w (now mem) (now room) × ((w .omitted ≡ 0) × ((w .dropped ≡ 0) × ((isRow (now datagram) ≡ true) × (length (now datagram) ≤ mostBytes)))) ⌝ }
-    ensures { λ v. ⌜ Stepped c 200000 (allTlvs (contextOf c) (tlvs (now (datagram .entry)))) w (now (mem .entry)) (now (room .entry)) v (now (mem .exit)) (now (room .exit)) ⌝ }
+    ensures { λ v. ⌜ Ran c (tlvs (now (datagram .entry))) w (now (mem .entry)) (now (room .entry)) v (now (mem .exit)) (now (room .exit)) ⌝ }
 {
     let mut v = w;
     let mut at = 0;

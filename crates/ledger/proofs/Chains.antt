@@ -268,9 +268,9 @@ purge-counted : (clock : ℕ) (randoms : List ℕ) (s : State) (m : List ℕ) (r
     → Reachable (s .own) clock (view (s .table) m) (view (r .state .table) m)
 unfolding purge purged settle stateOf
 purge-counted clock randoms s m r l h z =
-    let n : r .number ≡ refusalPurge clock (length m) (stateOf s m) = ap (λ (x : ModelDone). x .number) (h .is) ∙ refusals-exact .purges clock randoms (length m) (stateOf s m) .answered in
+    let n : r .number ≡ refusalPurge clock (length m) (stateOf s m) = ap (λ (x : ModelDone). x .number) (h .0 .is) ∙ refusals-exact .purges clock randoms (length m) (stateOf s m) .answered in
     let e : _≡_ {A = ModelDone} (record { number = r .number; state = stateOf (r .state) m }) (record { number = 0; state = purged clock randoms (stateOf s m) }) =
-    h .is ∙ sym (as-accepted (r .number) (refusalPurge clock (length m) (stateOf s m)) n (record { number = 0; state = purged clock randoms (stateOf s m) }) (λ k. record { number = k; state = stateOf s m }) z) in
+    h .0 .is ∙ sym (as-accepted (r .number) (refusalPurge clock (length m) (stateOf s m)) n (record { number = 0; state = purged clock randoms (stateOf s m) }) (λ k. record { number = k; state = stateOf s m }) z) in
     subst (Reachable (s .own) clock (view (s .table) m)) (sym (ap (λ (x : ModelDone). x .state .table) e)) (reachable (s .own) clock (view (s .table) m) (table-ascends s m l))
 
 pub only-reachable : OnlyReachable

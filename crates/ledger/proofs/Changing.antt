@@ -14,6 +14,7 @@ use Rattle.wire.specs.Order.{among}
 use Rattle.wire.specs.Payment.{Payment, paymentTlv}
 use Rattle.model.specs.Figures.{dataLimit, tableBytes}
 use Rattle.model.specs.Sequence.{circle}
+use Rattle.model.specs.Table.{Entry}
 use Rattle.model.specs.Refusals.{Row, firstOf, late, back, smallTable, noHousehold, paidAlready, full}
 use Rattle.model.specs.State.{State as ModelState, ownData}
 use Rattle.model.specs.Begin.{Done as ModelDone, begun, refusalBegin, begin}
@@ -22,10 +23,13 @@ use Rattle.model.specs.Pay.{paid, refusalPay, pay, purged, refusalPurge, purge}
 use Rattle.model.specs.Invariant.{Valid}
 use Rattle.model.proofs.Kept.{invariant-kept}
 use Rattle.node.specs.declared.State.{State}
-use Rattle.node.specs.View.{stateOf, Moved}
+use Rattle.table.specs.View.{SlotsStay, Wrote}
+use Rattle.table.proofs.Laying.{stays-self}
+use Rattle.node.specs.View.{stateOf, Moved, Published}
+use Rattle.node.proofs.Parts.{state-table}
 use Rattle.start.specs.declared.resume.Resumed.{Resumed}
 use Rattle.start.specs.Started.{ResumedFrom}
-use Rattle.ledger.specs.Promises.{AsLeft, Changes}
+use Rattle.ledger.specs.Promises.{AsLeft, Changes, Resumes, Pays, Purges}
 use Rattle.ledger.proofs.Left.{rep-left, none-first, first-early, first-late}
 use Rattle.ledger.proofs.Answering.{as-refused, as-accepted}
 
@@ -45,6 +49,11 @@ module _ {s : State} {m : List ℕ} {d : ModelDone} where
         beyond = h .beyond;
         refused = λ z. absurd (z refl);
       }
+
+-- what was published is all that was written
+pub wrote-as : {a : ModelState} {s : State} {m : List ℕ} {r : State} {m′ : List ℕ} → Published a s m r m′ → {es : List Entry} → a .table ≡ es → Wrote (s .table) m es (r .table) m′
+wrote-as {s = s} {m = m} {r = r} {m′ = m′} h e =
+    subst (λ (es : List Entry). Wrote (s .table) m es (r .table) m′) (sym (state-table r m′) ∙ ap (λ (x : ModelState). x .table) (h .moved .is) ∙ e) (h .wrote)
 
 -- ---- the calls
 
@@ -71,30 +80,35 @@ module _ (s : State) (m : List ℕ) (l : AsLeft s m) (clock : ℕ) (rs : List �
 
   -- purging
   module _ (n : ℕ) (e : n ≡ refusalPurge clock (length m) (stateOf s m)) where
-    pub purge-no : ¬ (n ≡ 0) → Changes (purge clock rs (length m) (stateOf s m)) s m (record { number = n; state = s }) m
+    pub purge-no : ¬ (n ≡ 0) → Purges clock rs s m (record { number = n; state = s })
     unfolding purge
-    purge-no z = changes-refused (as-refused n (refusalPurge clock (length m) (stateOf s m)) e (done (purged clock rs (stateOf s m))) told z) l
+    purge-no z = (changes-refused (as-refused n (refusalPurge clock (length m) (stateOf s m)) e (done (purged clock rs (stateOf s m))) told z) l, stays-self (s .table))
 
-    pub purge-yes : (r : State) → n ≡ 0 → tableBytes ≤ length m → Moved (purged clock rs (stateOf s m)) m r m
-        → Changes (purge clock rs (length m) (stateOf s m)) s m (record { number = 0; state = r }) m
+    pub purge-yes : (r : State) → n ≡ 0 → tableBytes ≤ length m → Moved (purged clock rs (stateOf s m)) m r m × SlotsStay (r .table) (s .table)
+        → Purges clock rs s m (record { number = 0; state = r })
     unfolding purge
-    purge-yes r z room h =
-        changes-moved (as-accepted n (refusalPurge clock (length m) (stateOf s m)) e (done (purged clock rs (stateOf s m))) told z) h
-        (invariant-kept .purges clock rs (length m) (stateOf s m) (l .valid room))
+    purge-yes r z room h = (
+      changes-moved (as-accepted n (refusalPurge clock (length m) (stateOf s m)) e (done (purged clock rs (stateOf s m))) told z) (h .0)
+          (invariant-kept .purges clock rs (length m) (stateOf s m) (l .valid room)),
+      h .1,
+    )
 
   -- paying
   module _ (p : Payment) where
     module _ (n : ℕ) (e : n ≡ refusalPay clock p (length m) (stateOf s m)) where
-      pub pay-no : ¬ (n ≡ 0) → Changes (pay clock p rs (length m) (stateOf s m)) s m (record { number = n; state = s }) m
+      pub pay-no : ¬ (n ≡ 0) → Pays clock p rs s m (record { number = n; state = s }) m
       unfolding pay
-      pay-no z = changes-refused (as-refused n (refusalPay clock p (length m) (stateOf s m)) e (done (paid clock p rs (stateOf s m))) told z) l
+      pay-no z = (changes-refused (as-refused n (refusalPay clock p (length m) (stateOf s m)) e (done (paid clock p rs (stateOf s m))) told z) l, λ y. absurd (z y))
 
-      pub pay-yes : (r : State) (m′ : List ℕ) → n ≡ 0 → tableBytes ≤ length m → Moved (paid clock p rs (stateOf s m)) m r m′
-          → Changes (pay clock p rs (length m) (stateOf s m)) s m (record { number = 0; state = r }) m′
+      pub pay-yes : (r : State) (m′ : List ℕ) → n ≡ 0 → tableBytes ≤ length m → Published (paid clock p rs (stateOf s m)) s m r m′
+          → Pays clock p rs s m (record { number = 0; state = r }) m′
       unfolding pay
       pay-yes r m′ z room h =
-          changes-moved (as-accepted n (refusalPay clock p (length m) (stateOf s m)) e (done (paid clock p rs (stateOf s m))) told z) h
-          (invariant-kept .pays clock p rs (length m) (stateOf s m) (l .valid room))
+          let a : done (paid clock p rs (stateOf s m)) ≡ pay clock p rs (length m) (stateOf s m) =
+          as-accepted n (refusalPay clock p (length m) (stateOf s m)) e (done (paid clock p rs (stateOf s m))) told z in (
+            changes-moved a (h .moved) (invariant-kept .pays clock p rs (length m) (stateOf s m) (l .valid room)),
+            λ y. wrote-as h (ap (λ (x : ModelDone). x .state .table) a),
+          )
 
     -- the refusals that need no table, then those that read our data
     abbrev early : List Row
@@ -133,19 +147,21 @@ module _ (s : State) (m : List ℕ) (l : AsLeft s m) (clock : ℕ) (rs : List �
     refusal-first : ¬ (firstOf first ≡ 0) → firstOf first ≡ refusalResume clock bytes (length m)
     refusal-first z = sym (first-early first (noSnapshot clock bytes ∷ []) z)
 
-    pub resume-no : (n : ℕ) → n ≡ firstOf first → ¬ (n ≡ 0) → Changes (resume clock bytes rs (length m) (stateOf s m)) s m (record { number = n; state = s }) m
+    pub resume-no : (n : ℕ) → n ≡ firstOf first → ¬ (n ≡ 0) → Resumes bytes clock rs s m (record { number = n; state = s }) m
     unfolding resume
-    resume-no n e z = changes-refused (as-refused n (refusalResume clock bytes (length m)) (e ∙ refusal-first (λ y. z (e ∙ y))) _ told z) l
+    resume-no n e z = (changes-refused (as-refused n (refusalResume clock bytes (length m)) (e ∙ refusal-first (λ y. z (e ∙ y))) _ told z) l, λ y. absurd (z y))
 
     module _ (e : firstOf first ≡ 0) (r : Resumed) (m′ : List ℕ) (h : ResumedFrom clock bytes rs s m r m′) where
       refusal-last : firstOf (noSnapshot clock bytes ∷ []) ≡ refusalResume clock bytes (length m)
       refusal-last = sym (first-late first (noSnapshot clock bytes ∷ []) (omega arith) e)
 
-      pub resume-unread : r .ok ≡ false → Changes (resume clock bytes rs (length m) (stateOf s m)) s m (record { number = 11; state = r .state }) m′
+      pub resume-unread : r .ok ≡ false → Resumes bytes clock rs s m (record { number = 11; state = r .state }) m′
       unfolding resume
       resume-unread n =
-          let k : 11 ≡ refusalResume clock bytes (length m) = sym (unread (sym (h .judged) ∙ n)) ∙ refusal-last in
-          rw (h .state n, h .memory n) (changes-refused (as-refused 11 (refusalResume clock bytes (length m)) k _ told (λ z. omega (arith, z))) l)
+          let k : 11 ≡ refusalResume clock bytes (length m) = sym (unread (sym (h .judged) ∙ n)) ∙ refusal-last in (
+            rw (h .state n, h .memory n) (changes-refused (as-refused 11 (refusalResume clock bytes (length m)) k _ told (λ z. omega (arith, z))) l),
+            λ y. absurd (let z : 11 ≡ 0 = y in omega arith),
+          )
 
       resume-as : (b : Snapshot) → load clock bytes ≡ some b → 0 ≡ refusalResume clock bytes (length m)
           → done (resumed clock rs b) ≡ resume clock bytes rs (length m) (stateOf s m)
@@ -155,8 +171,10 @@ module _ (s : State) (m : List ℕ) (l : AsLeft s m) (clock : ℕ) (rs : List �
           ∙ as-accepted 0 (refusalResume clock bytes (length m)) k (done (orElse (load clock bytes) (stateOf s m) (resumed clock rs))) told refl
 
       pub resume-yes : r .ok ≡ true → length rs ≡ 4 → tableBytes ≤ length m
-          → Changes (resume clock bytes rs (length m) (stateOf s m)) s m (record { number = 0; state = r .state }) m′
+          → Resumes bytes clock rs s m (record { number = 0; state = r .state }) m′
       resume-yes y four room =
-          let b : (x : Snapshot) × (load clock bytes ≡ some x) = loads-some (load clock bytes) (sym (h .judged) ∙ y) in
-          changes-moved (resume-as (b .0) (b .1) (sym (read (sym (h .judged) ∙ y)) ∙ refusal-last)) (h .resumes (b .0) (b .1))
-          (invariant-kept .resumes clock bytes rs (length m) (stateOf s m) four (l .valid room))
+          let b : (x : Snapshot) × (load clock bytes ≡ some x) = loads-some (load clock bytes) (sym (h .judged) ∙ y) in (
+            changes-moved (resume-as (b .0) (b .1) (sym (read (sym (h .judged) ∙ y)) ∙ refusal-last)) (h .resumes (b .0) (b .1))
+                (invariant-kept .resumes clock bytes rs (length m) (stateOf s m) four (l .valid room)),
+            λ z. h .lays,
+          )

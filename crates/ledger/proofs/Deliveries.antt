@@ -30,13 +30,13 @@ use Rattle.node.specs.declared.State.{State}
 use Rattle.model.specs.Show.{Marks as ModelMarks}
 use Rattle.ledger.specs.declared.answers.Marked.{Marked}
 use Rattle.ledger.specs.Promises.{Lists, marksOf, Marks}
-use Rattle.ledger.specs.Demands.{Delivery, Joined, callIn, callsOf, tableAfter, stateAfter, memoryAfter, known, Delivered, DeliveryLosesNothing}
+use Rattle.ledger.specs.Demands.{Delivery, Joined, callIn, callsOf, tableThen, stateThen, memoryThen, known, Delivered, DeliveryLosesNothing}
 use Rattle.ledger.proofs.Left.{not-small-room}
 use Rattle.ledger.proofs.Chains.{marks-counted}
 
 -- ---- the model's state after the calls is that of the code's state and memory
 
-joined-run : (s : State) (m : List ℕ) (xs : List Delivery) → Joined s m xs → run (stateOf s m) (callsOf (length m) xs) .table ≡ tableAfter s m xs
+joined-run : (s : State) (m : List ℕ) (xs : List Delivery) → Joined s m xs → run (stateOf s m) (callsOf (length m) xs) .table ≡ tableThen s m xs
 unfolding run stateOf
 joined-run s m [] j = refl
 joined-run s m (x ∷ xs) j =
@@ -93,33 +93,33 @@ module _ (s : State) (m : List ℕ) where
   premises : (xs : List Delivery) → Delivered s m xs → tableBytes ≤ length m → Premises (stateOf s m) (calls xs)
   premises xs d room = record { valid = d .left .valid room; lone = d .lone; few = d .few; close = d .close; single = d .single }
 
-  after : (xs : List Delivery) → Delivered s m xs → run (stateOf s m) (calls xs) .table ≡ tableAfter s m xs
+  after : (xs : List Delivery) → Delivered s m xs → run (stateOf s m) (calls xs) .table ≡ tableThen s m xs
   after xs d = joined-run s m xs (d .joined)
 
-  kept : (xs : List Delivery) → Delivered s m xs → Holds (λ (x : Statement). In x (known s m xs)) (tableAfter s m xs)
+  kept : (xs : List Delivery) → Delivered s m xs → Holds (λ (x : Statement). In x (known s m xs)) (tableThen s m xs)
   unfolding stateOf
   kept xs d =
       by-test (leb tableBytes (length m))
       (λ y. subst (Holds (λ (x : Statement). In x (known s m xs))) (after xs d) (order-loses-nothing .kept (stateOf s m) (calls xs) (premises xs d (leb-true tableBytes (length m) y))))
       (λ n. let short : length m < tableBytes = leb-false tableBytes (length m) n in
-      let t : view (s .table) m ≡ tableAfter s m xs = ap (λ (v : ModelState). v .table) (sym (short-run (length m) short (stateOf s m) xs)) ∙ after xs d in
+      let t : view (s .table) m ≡ tableThen s m xs = ap (λ (v : ModelState). v .table) (sym (short-run (length m) short (stateOf s m) xs)) ∙ after xs d in
       rw (short-heard (length m) short (stateOf s m) xs, append-nil (statements (view (s .table) m)), sym t) (holds-own (view (s .table) m) (view-ascending (s .table) (d .left .arranged) m)))
 
   module _ (xs ys : List Delivery) (d : Delivered s m xs) (e : Delivered s m ys) (same : SameHeard (stateOf s m) (calls xs) (calls ys)) where
-    short-alike : length m < tableBytes → tableAfter s m xs ≡ tableAfter s m ys
+    short-alike : length m < tableBytes → tableThen s m xs ≡ tableThen s m ys
     short-alike short = sym (after xs d) ∙ ap (λ (v : ModelState). v .table) (short-run (length m) short (stateOf s m) xs ∙ sym (short-run (length m) short (stateOf s m) ys)) ∙ after ys e
 
     model-alike : tableBytes ≤ length m → Alike (stateOf s m) (calls xs) (calls ys)
     model-alike room = order-loses-nothing .alike (stateOf s m) (calls xs) (calls ys) (premises xs d room) (premises ys e room) same
 
-    tables : statements (tableAfter s m xs) ≡ statements (tableAfter s m ys)
+    tables : statements (tableThen s m xs) ≡ statements (tableThen s m ys)
     tables =
         by-test (leb tableBytes (length m)) (λ y. rw (after xs d, after ys e) at (model-alike (leb-true tableBytes (length m) y) .table))
         (λ n. ap statements (short-alike (leb-false tableBytes (length m) n)))
 
-    alike : (clock : ℕ) → Under clock (tableAfter s m xs) → Under clock (tableAfter s m ys)
-        → ((n : ℕ) → inReach (s .own) clock (tableAfter s m xs) n ≡ inReach (s .own) clock (tableAfter s m ys) n)
-        × (networkDigest (s .own) clock (tableAfter s m xs) ≡ networkDigest (s .own) clock (tableAfter s m ys))
+    alike : (clock : ℕ) → Under clock (tableThen s m xs) → Under clock (tableThen s m ys)
+        → ((n : ℕ) → inReach (s .own) clock (tableThen s m xs) n ≡ inReach (s .own) clock (tableThen s m ys) n)
+        × (networkDigest (s .own) clock (tableThen s m xs) ≡ networkDigest (s .own) clock (tableThen s m ys))
     unfolding stateOf
     alike clock u v =
         by-test (leb tableBytes (length m))
@@ -129,7 +129,7 @@ module _ (s : State) (m : List ℕ) where
           λ n. rw (run-own (stateOf s m) (calls xs), run-own (stateOf s m) (calls ys), after xs d, after ys e) at (a .marks clock p q n),
           rw (run-own (stateOf s m) (calls xs), run-own (stateOf s m) (calls ys), after xs d, after ys e) at (a .digest clock p q),
         ))
-        (λ n. let t : tableAfter s m xs ≡ tableAfter s m ys = short-alike (leb-false tableBytes (length m) n) in
+        (λ n. let t : tableThen s m xs ≡ tableThen s m ys = short-alike (leb-false tableBytes (length m) n) in
         (λ k. ap (λ (l : List Entry). inReach (s .own) clock l k) t, ap (λ (l : List Entry). networkDigest (s .own) clock l) t))
 
 -- ---- as `marks` answers
@@ -145,15 +145,11 @@ same-marked d e a b x y p =
     ∙ ap (λ (l : List ℕ). take (b .count) (b .nodes) ++ l) (x .rest ∙ ap (λ (k : ℕ). replicate (mostNodes - k) 0) c ∙ sym (y .rest)) ∙ take-append-drop (b .count) (b .nodes) in
     λ i. record { number = p i .number; count = c i; nodes = n i; digest = p i .digest }
 
-own-after : (s : State) (m : List ℕ) (xs : List Delivery) → Joined s m xs → stateAfter s xs .own ≡ s .own
+own-after : (s : State) (m : List ℕ) (xs : List Delivery) → Joined s m xs → stateThen s xs .own ≡ s .own
 unfolding stateOf
 own-after s m [] j = refl
 own-after s m (x ∷ xs) j =
     own-after (x .answer .state) (x .memory) xs (j .1) ∙ ap (λ (a : ModelAnswer). a .state .own) (j .0 .is) ∙ receive-own (callIn (length m) x) (stateOf s m)
-
-table-is : (s : State) (m : List ℕ) (xs : List Delivery) → view (stateAfter s xs .table) (memoryAfter m xs) ≡ tableAfter s m xs
-table-is s m [] = refl
-table-is s m (x ∷ xs) = table-is (x .answer .state) (x .memory) xs
 
 ids-reached : (own clock : ℕ) (t : List Entry) → map idOf (reached own clock t) ≡ keep (inReach own clock t) (map idOf t)
 unfolding reached
@@ -167,24 +163,23 @@ abbrev shown : ℕ → ℕ → List Entry → ModelMarks
 shown own clock t = record { number = 0; nodes = map idOf (reached own clock t); digest = networkDigest own clock t }
 
 module _ (s : State) (m : List ℕ) (clock : ℕ) where
-  marks-after : (xs : List Delivery) → Joined s m xs → (a : Marked) → Marks clock (stateAfter s xs) (memoryAfter m xs) a → a .number ≡ 0 → marksOf a ≡ shown (s .own) clock (tableAfter s m xs)
+  marks-after : (xs : List Delivery) → Joined s m xs → (a : Marked) → Marks clock (stateThen s xs) (memoryThen m xs) a → a .number ≡ 0 → marksOf a ≡ shown (s .own) clock (tableThen s m xs)
   marks-after xs j a h z =
-      marks-counted clock (stateAfter s xs) (memoryAfter m xs) a h z ∙ ap (λ (o : ℕ). shown o clock (view (stateAfter s xs .table) (memoryAfter m xs))) (own-after s m xs j)
-      ∙ ap (shown (s .own) clock) (table-is s m xs)
+      marks-counted clock (stateThen s xs) (memoryThen m xs) a h z ∙ ap (λ (o : ℕ). shown o clock (view (stateThen s xs .table) (memoryThen m xs))) (own-after s m xs j)
 
   module _ (xs ys : List Delivery) (d : Delivered s m xs) (e : Delivered s m ys) (same : SameHeard (stateOf s m) (callsOf (length m) xs) (callsOf (length m) ys))
-      (u : Under clock (tableAfter s m xs)) (v : Under clock (tableAfter s m ys)) where
-    shown-alike : shown (s .own) clock (tableAfter s m xs) ≡ shown (s .own) clock (tableAfter s m ys)
+      (u : Under clock (tableThen s m xs)) (v : Under clock (tableThen s m ys)) where
+    shown-alike : shown (s .own) clock (tableThen s m xs) ≡ shown (s .own) clock (tableThen s m ys)
     shown-alike =
         let r = alike s m xs ys d e same clock u v in
-        let ids : map idOf (tableAfter s m xs) ≡ map idOf (tableAfter s m ys) =
-        ids-says (tableAfter s m xs) ∙ ap (map (λ (x : Statement). x .node)) (tables s m xs ys d e same) ∙ sym (ids-says (tableAfter s m ys)) in
-        let n : map idOf (reached (s .own) clock (tableAfter s m xs)) ≡ map idOf (reached (s .own) clock (tableAfter s m ys)) =
-        ids-reached (s .own) clock (tableAfter s m xs) ∙ keep-same (inReach (s .own) clock (tableAfter s m xs)) (inReach (s .own) clock (tableAfter s m ys)) (map idOf (tableAfter s m xs)) (r .0)
-        ∙ ap (keep (inReach (s .own) clock (tableAfter s m ys))) ids ∙ sym (ids-reached (s .own) clock (tableAfter s m ys)) in
+        let ids : map idOf (tableThen s m xs) ≡ map idOf (tableThen s m ys) =
+        ids-says (tableThen s m xs) ∙ ap (map (λ (x : Statement). x .node)) (tables s m xs ys d e same) ∙ sym (ids-says (tableThen s m ys)) in
+        let n : map idOf (reached (s .own) clock (tableThen s m xs)) ≡ map idOf (reached (s .own) clock (tableThen s m ys)) =
+        ids-reached (s .own) clock (tableThen s m xs) ∙ keep-same (inReach (s .own) clock (tableThen s m xs)) (inReach (s .own) clock (tableThen s m ys)) (map idOf (tableThen s m xs)) (r .0)
+        ∙ ap (keep (inReach (s .own) clock (tableThen s m ys))) ids ∙ sym (ids-reached (s .own) clock (tableThen s m ys)) in
         λ i. record { number = 0; nodes = n i; digest = r .1 i }
 
-    answers : (a b : Marked) → Marks clock (stateAfter s xs) (memoryAfter m xs) a → Marks clock (stateAfter s ys) (memoryAfter m ys) b → a .number ≡ 0 → b .number ≡ 0 → a ≡ b
+    answers : (a b : Marked) → Marks clock (stateThen s xs) (memoryThen m xs) a → Marks clock (stateThen s ys) (memoryThen m ys) b → a .number ≡ 0 → b .number ≡ 0 → a ≡ b
     answers a b h k y z =
         same-marked _ _ a b h k (marks-after xs (d .joined) a h y ∙ shown-alike ∙ sym (marks-after ys (e .joined) b k z))
 

@@ -8,10 +8,10 @@ pub mod Sums
 pub mod Listing
 pub mod Saves
 pub mod Shown
-pub mod Premises
 pub mod Chains
 pub mod Deliveries
 pub mod Corollaries
 pub mod Calls
-pub mod Flow
+pub mod Slots
+pub mod Traffic
 pub mod Returns

@@ -62,7 +62,7 @@ resumes : (clock later : ℕ) (rs : List ℕ) (s : State) (m q : List ℕ) (r : 
     → (d .number ≡ 0) × (stateOf (d .state) n′ ≡ resumed later rs (bookOf clock later s m))
 resumes clock later rs s m q r q′ l h z fine u n d n′ room g =
     let e : _≡_ {A = ModelDone} (record { number = d .number; state = stateOf (d .state) n′ }) (record { number = 0; state = resumed later rs (bookOf clock later s m) }) =
-    g .is ∙ resume-is later (take (r .length) q′) rs (length n) (stateOf u n) (bookOf clock later s m) fine room (loads clock s m q r q′ l h z later) in
+    g .0 .is ∙ resume-is later (take (r .length) q′) rs (length n) (stateOf u n) (bookOf clock later s m) fine room (loads clock s m q r q′ l h z later) in
     (ap (λ (x : ModelDone). x .number) e, ap (λ (x : ModelDone). x .state) e)
 
 pub saved-comes-back : SavedComesBack

@@ -10,18 +10,21 @@ use Rattle.base.specs.Bytes.{Bytes}
 use Rattle.base.specs.Lists.{All}
 use Rattle.wire.specs.Row.{isRow}
 use Rattle.model.specs.Figures.{tableBytes, mostBytes, lastReading}
+use Rattle.model.specs.Table.{Entry}
 use Rattle.model.specs.Refusals.{Row, late, back, noSuchEndpoint, smallRoom, long, noRow}
 use Rattle.model.specs.Receive.{Call, Answer as ModelAnswer, handled, refusalReceive, receive}
 use Rattle.model.specs.Tick.{Sent as ModelSent, ticked, refusalTick, tick}
 use Rattle.model.specs.Invariant.{Valid}
 use Rattle.model.proofs.Kept.{invariant-kept}
 use Rattle.model.proofs.Cases.{receive-accepted, receive-refused}
+use Rattle.table.specs.View.{Wrote}
 use Rattle.node.specs.declared.State.{State}
+use Rattle.node.proofs.Parts.{state-table}
 use Rattle.node.specs.View.{stateOf}
 use Rattle.upkeep.specs.declared.tick.Ticked.{Ticked}
 use Rattle.upkeep.specs.Ticked.{TickedFrom}
 use Rattle.exchange.specs.declared.datagram.Outcome.{Outcome}
-use Rattle.exchange.specs.Datagram.{callOf, Handled}
+use Rattle.exchange.specs.Datagram.{callOf, tablesOf, Handled}
 use Rattle.ledger.specs.Promises.{AsLeft, Sends, Answers}
 use Rattle.ledger.proofs.Left.{rep-left, none-first, endpoint-accepted}
 use Rattle.ledger.proofs.Answering.{as-refused, as-accepted}
@@ -37,6 +40,7 @@ module _ (s : State) (m q : List ℕ) (l : AsLeft s m) (clock endpoint : ℕ) (r
       record {
         is = as-refused n (refusalTick clock endpoint (length m) (length q) (stateOf s m)) e (ticked clock endpoint rs (stateOf s m)) told z;
         left = l;
+        wrote = λ y. absurd (z y);
         size = refl;
         beyond = refl;
         within = omega arith;
@@ -53,6 +57,7 @@ module _ (s : State) (m q : List ℕ) (l : AsLeft s m) (clock endpoint : ℕ) (r
       record {
         is = is;
         left = rep-left (h .rep) (subst (λ (x : ModelSent). Valid (x .state)) (sym is) (invariant-kept .ticks clock endpoint rs (length m) (length q) (stateOf s m) (l .valid enough)));
+        wrote = λ y. subst (λ (es : List Entry). Wrote (s .table) m es (o .state .table) m′) (sym (state-table (o .state) m′) ∙ ap (λ (x : ModelSent). x .state .table) is) (h .wrote);
         size = h .size;
         beyond = h .beyond;
         within = omega (arith, h .used, h .room);
@@ -69,11 +74,12 @@ module _ (s : State) (m q : List ℕ) (l : AsLeft s m) (datagram : List ℕ) (cl
   call = callOf datagram clock endpoint unicast rs (length m) (length q)
 
   pub receive-no : (n : ℕ) → n ≡ refusalReceive call (stateOf s m) → ¬ (n ≡ 0)
-      → Answers (receive call (stateOf s m)) s m q (record { number = n; state = s; length = 0; omitted = 0; dropped = 0 }) m q
+      → Answers (receive call (stateOf s m)) (tablesOf (stateOf s m) call) s m q (record { number = n; state = s; length = 0; omitted = 0; dropped = 0 }) m q
   receive-no n e z =
       record {
         is = ap (λ (k : ℕ). record { number = k; state = stateOf s m; bytes = []; omitted = 0; dropped = 0 }) e ∙ sym (receive-refused call (stateOf s m) (λ y. z (e ∙ y)));
         left = l;
+        wrote = λ y. absurd (z y);
         size = refl;
         beyond = refl;
         within = omega arith;
@@ -84,12 +90,13 @@ module _ (s : State) (m q : List ℕ) (l : AsLeft s m) (datagram : List ℕ) (cl
 
   pub receive-yes : (o : Outcome) (m′ q′ : List ℕ) → refusalReceive call (stateOf s m) ≡ 0 → tableBytes ≤ length m → mostBytes ≤ length q → Bytes datagram
       → Handled s m q datagram clock endpoint unicast rs o m′ q′
-      → Answers (receive call (stateOf s m)) s m q (record { number = 0; state = o .state; length = o .length; omitted = o .omitted; dropped = o .dropped }) m′ q′
+      → Answers (receive call (stateOf s m)) (tablesOf (stateOf s m) call) s m q (record { number = 0; state = o .state; length = o .length; omitted = o .omitted; dropped = o .dropped }) m′ q′
   unfolding handled
   receive-yes o m′ q′ e enough wide bytes h =
       record {
         is = is;
         left = rep-left (h .rep) (subst (λ (x : ModelAnswer). Valid (x .state)) (sym is) (invariant-kept .receives call (stateOf s m) bytes (l .valid enough)));
+        wrote = λ y. h .wrote;
         size = h .size;
         beyond = h .beyond;
         within = omega (arith, h .used, h .room);

@@ -3,28 +3,29 @@ use mathlib.Core.Path.{_≡_}
 use mathlib.Core.Bool.{Bool}
 use mathlib.Core.List.{List, [], _∷_, _++_, map}
 use mathlib.Core.Logic.{_⊎_, _↔_}
-use Prim.Native.Nat.{ℕ, _≤_}
-use lib.ListN.{length, take}
+use mathlib.Core.Option.{some}
+use Prim.Native.Nat.{ℕ, _+_, _-_, _*_, _≤_}
+use lib.ListN.{length, take, drop}
 use Rattle.base.specs.Bytes.{big32}
 use Rattle.base.specs.Lists.{In, joinAll}
+use Rattle.base.specs.Memory.{part}
 use Rattle.base.specs.Signed.{sumℤ}
 use Rattle.base.specs.Sorted.{Ascending}
 use Rattle.sha256.specs.Sha256.{hash16}
 use Rattle.wire.specs.Row.{typeOf, tlvs}
 use Rattle.wire.specs.Payment.{mostHousehold}
-use Rattle.model.specs.Figures.{tableBytes}
+use Rattle.model.specs.Figures.{dataLimit, tableBytes}
 use Rattle.model.specs.Table.{Entry, Statement, idOf, statements}
 use Rattle.model.specs.Messages.{endpointTlv, networkTlv, shortState, wholeState}
-use Rattle.model.specs.Begin.{Done as ModelDone}
-use Rattle.model.specs.Tick.{Sent as ModelSent}
 use Rattle.model.specs.Totals.{totalOf, sumOf, unreadable, paymentsIn}
 use Rattle.model.specs.Handle.{Work as ModelWork, allTlvs}
-use Rattle.model.specs.Receive.{Call, Answer as ModelAnswer, contextOf, startOf}
+use Rattle.model.specs.Receive.{Call, contextOf, startOf}
 use Rattle.model.specs.Delivery.{heldOrHeard, Lone, Close, distinct, Holds, SameHeard, Under}
-use Rattle.model.specs.Theorems.{Chained, upFrom, Form}
+use Rattle.model.specs.Theorems.{Chained, upFrom, Form, Exact}
 use Rattle.model.specs.Reach.{inReach}
 use Rattle.model.specs.Digest.{networkDigest}
-use Rattle.table.specs.View.{view}
+use Rattle.table.specs.declared.Entry.{Entry as Meta}
+use Rattle.table.specs.View.{live, view, Free, metaOf}
 use Rattle.node.specs.View.{stateOf}
 use Rattle.node.specs.declared.State.{State}
 use Rattle.exchange.specs.Datagram.{callOf}
@@ -33,22 +34,36 @@ use Rattle.ledger.specs.declared.answers.Sent.{Sent}
 use Rattle.ledger.specs.declared.answers.Answer.{Answer}
 use Rattle.ledger.specs.declared.answers.Summed.{Summed}
 use Rattle.ledger.specs.declared.answers.Marked.{Marked}
-use Rattle.ledger.specs.Promises.{AsLeft, Blank, Changes, Sends, Answers, Receives, Ticks, Purges, Totals, SumsUp, Marks}
+use Rattle.ledger.specs.Promises.{AsLeft, Blank, Receives, Ticks, Purges, Totals, SumsUp, Marks}
+use Rattle.ledger.specs.Calls.{PublicCall, Promised, stateAfter, memoryAfter, numberOf, refusalsOf, RoomSame, writtenBy, Trace, stateAtEnd, memoryAtEnd}
 
 -- ---- demand 1: "The caller hands back state and table as the last call left them and need check nothing"
 
--- The one premise holds of the first state with whatever table memory, and every call that changes state leaves it; the others leave state and memory
--- alone. A refusal leaves state and lent memory identical, whatever the model's call d is.
-pub record OnePremise : Type 0 where
-  pub first : (r : State) → Blank r → (m : List ℕ) → AsLeft r m
-  pub changes : (d : ModelDone) (s : State) (m : List ℕ) (r : Done) (m′ : List ℕ) → Changes d s m r m′ → AsLeft (r .state) m′
-  pub sends : (d : ModelSent) (s : State) (m q : List ℕ) (r : Sent) (m′ q′ : List ℕ) → Sends d s m q r m′ q′ → AsLeft (r .state) m′
-  pub answers : (d : ModelAnswer) (s : State) (m q : List ℕ) (r : Answer) (m′ q′ : List ℕ) → Answers d s m q r m′ q′ → AsLeft (r .state) m′
-  pub unchanged : (d : ModelDone) (s : State) (m : List ℕ) (r : Done) (m′ : List ℕ) → Changes d s m r m′ → ¬ (d .number ≡ 0) → (r .state ≡ s) × (m′ ≡ m)
-  pub unsent : (d : ModelSent) (s : State) (m q : List ℕ) (r : Sent) (m′ q′ : List ℕ) → Sends d s m q r m′ q′ → ¬ (d .number ≡ 0)
-      → (r .state ≡ s) × ((m′ ≡ m) × (q′ ≡ q))
-  pub unanswered : (d : ModelAnswer) (s : State) (m q : List ℕ) (r : Answer) (m′ q′ : List ℕ) → Answers d s m q r m′ q′ → ¬ (d .number ≡ 0)
-      → (r .state ≡ s) × ((m′ ≡ m) × (q′ ≡ q))
+-- The one premise holds of the first state with whatever table memory, after every call, accepted or refused, and so after any list of calls.
+pub record PremiseHolds : Type 0 where
+  pub first : (s : State) → Blank s → (m : List ℕ) → AsLeft s m
+  pub next : (x : PublicCall) (s : State) (m : List ℕ) → AsLeft s m → Promised x s m → AsLeft (stateAfter x s) (memoryAfter x m)
+  pub always : (s : State) → Blank s → (m : List ℕ) (xs : List PublicCall) → Trace s m xs → AsLeft (stateAtEnd s xs) (memoryAtEnd m xs)
+
+-- "the first in the order that applies is given, and it is given otherwise never": of the rows of document 01's table that the call's arguments and the
+-- state call for
+pub record NumbersExact : Type 0 where
+  pub number : (x : PublicCall) (s : State) (m : List ℕ) → Promised x s m → Exact (numberOf x s m) (refusalsOf x s m)
+
+-- "A refusal .. writes nothing in lent memory, changes no state": all of it is identical
+pub record RefusalsLeaveAll : Type 0 where
+  pub refused : (x : PublicCall) (s : State) (m : List ℕ) → Promised x s m → ¬ (numberOf x s m ≡ 0) → (stateAfter x s ≡ s) × ((memoryAfter x m ≡ m) × RoomSame x)
+
+-- "Bytes of a buffer beyond what is written stay", of the table memory: its length and the bytes past the table; every slot that no node has afterwards; and
+-- of a node's slot what lies behind all data that the call wrote there.
+pub record MemoryKept : Type 0 where
+  pub size : (x : PublicCall) (s : State) (m : List ℕ) → Promised x s m → length (memoryAfter x m) ≡ length m
+  pub beyond : (x : PublicCall) (s : State) (m : List ℕ) → Promised x s m → drop tableBytes (memoryAfter x m) ≡ drop tableBytes m
+  pub free : (x : PublicCall) (s : State) (m : List ℕ) → Promised x s m → (j : ℕ) → Free j (live (stateAfter x s .table))
+      → part (memoryAfter x m) (j * dataLimit) dataLimit ≡ part m (j * dataLimit) dataLimit
+  pub behind : (x : PublicCall) (s : State) (m : List ℕ) → Promised x s m → (n k : ℕ) (y : Meta) → metaOf (stateAfter x s .table) n ≡ some y
+      → ((e : Entry) → In e (writtenBy x s m) → idOf e ≡ n → length (e .says .nodeData) ≤ k) → k ≤ dataLimit
+      → part (memoryAfter x m) (y .slot * dataLimit + k) (dataLimit - k) ≡ part m (y .slot * dataLimit + k) (dataLimit - k)
 
 -- ---- demand 2: "Only such boxes enter the network digest, a total or a Node State we send"
 
@@ -105,7 +120,7 @@ pub record OnlyReachable : Type 0 where
 
 -- ---- demand 3: "The order of delivery can't lose a payment"
 
--- one datagram call as it was made: what was handed in besides state and table memory, and what came back
+-- one datagram call as it was made
 pub record Delivery : Type 0 where
   pub datagram : List ℕ
   pub clock : ℕ
@@ -117,12 +132,12 @@ pub record Delivery : Type 0 where
   pub memory : List ℕ
   pub written : List ℕ
 
--- "Each call gets what the last one left": the promise of `receive` joins each state and memory to the next
+abbrev pub received : Delivery → PublicCall
+received x = PublicCall.receives (x .datagram) (x .clock) (x .endpoint) (x .unicast) (x .randoms) (x .room) (x .answer) (x .memory) (x .written)
+
+-- "Each call gets what the last one left"
 abbrev pub Joined : State → List ℕ → List Delivery → Type 0
-Joined s m [] = Unit {0}
-Joined s m (x ∷ xs) =
-    Receives (x .datagram) (x .clock) (x .endpoint) (x .unicast) (x .randoms) s m (x .room) (x .answer) (x .memory) (x .written)
-    × Joined (x .answer .state) (x .memory) xs
+Joined s m xs = Trace s m (map received xs)
 
 -- the model's calls, where the table memory has n bytes
 abbrev pub callIn : ℕ → Delivery → Call
@@ -131,19 +146,15 @@ callIn n x = callOf (x .datagram) (x .clock) (x .endpoint) (x .unicast) (x .rand
 abbrev pub callsOf : ℕ → List Delivery → List Call
 callsOf n xs = map (callIn n) xs
 
--- the table after the last of them, as the model sees it
-abbrev pub tableAfter : State → List ℕ → List Delivery → List Entry
-tableAfter s m [] = view (s .table) m
-tableAfter s m (x ∷ xs) = tableAfter (x .answer .state) (x .memory) xs
+-- state, table memory and table after the last of them
+abbrev pub stateThen : State → List Delivery → State
+stateThen s xs = stateAtEnd s (map received xs)
 
--- state and table memory then
-abbrev pub stateAfter : State → List Delivery → State
-stateAfter s [] = s
-stateAfter s (x ∷ xs) = stateAfter (x .answer .state) xs
+abbrev pub memoryThen : List ℕ → List Delivery → List ℕ
+memoryThen m xs = memoryAtEnd m (map received xs)
 
-abbrev pub memoryAfter : List ℕ → List Delivery → List ℕ
-memoryAfter m [] = m
-memoryAfter m (x ∷ xs) = memoryAfter (x .memory) xs
+abbrev pub tableThen : State → List ℕ → List Delivery → List Entry
+tableThen s m xs = view (stateThen s xs .table) (memoryThen m xs)
 
 -- statements held at the start or heard in an accepted call
 abbrev pub known : State → List ℕ → List Delivery → List Statement
@@ -160,20 +171,20 @@ pub record Delivered (s : State) (m : List ℕ) (xs : List Delivery) : Type 0 wh
 
 pub record DeliveryLosesNothing : Type 0 where
   -- "the table afterwards holds exactly the boxes held or heard, each with its newest statement"
-  pub kept : (s : State) (m : List ℕ) (xs : List Delivery) → Delivered s m xs → Holds (λ (x : Statement). In x (known s m xs)) (tableAfter s m xs)
+  pub kept : (s : State) (m : List ℕ) (xs : List Delivery) → Delivered s m xs → Holds (λ (x : Statement). In x (known s m xs)) (tableThen s m xs)
   -- "two such lists .. leave the same table apart from ages", and marks and network digest with it
   pub alike : (s : State) (m : List ℕ) (xs ys : List Delivery) → Delivered s m xs → Delivered s m ys
-      → SameHeard (stateOf s m) (callsOf (length m) xs) (callsOf (length m) ys) → statements (tableAfter s m xs) ≡ statements (tableAfter s m ys)
+      → SameHeard (stateOf s m) (callsOf (length m) xs) (callsOf (length m) ys) → statements (tableThen s m xs) ≡ statements (tableThen s m ys)
   pub marks : (s : State) (m : List ℕ) (xs ys : List Delivery) → Delivered s m xs → Delivered s m ys
       → SameHeard (stateOf s m) (callsOf (length m) xs) (callsOf (length m) ys)
-      → (clock : ℕ) → Under clock (tableAfter s m xs) → Under clock (tableAfter s m ys)
-      → ((n : ℕ) → inReach (s .own) clock (tableAfter s m xs) n ≡ inReach (s .own) clock (tableAfter s m ys) n)
-      × (networkDigest (s .own) clock (tableAfter s m xs) ≡ networkDigest (s .own) clock (tableAfter s m ys))
+      → (clock : ℕ) → Under clock (tableThen s m xs) → Under clock (tableThen s m ys)
+      → ((n : ℕ) → inReach (s .own) clock (tableThen s m xs) n ≡ inReach (s .own) clock (tableThen s m ys) n)
+      × (networkDigest (s .own) clock (tableThen s m xs) ≡ networkDigest (s .own) clock (tableThen s m ys))
   -- over the calls that show them: where `marks` is accepted after both lists, both answers are the same
   pub answers : (s : State) (m : List ℕ) (xs ys : List Delivery) → Delivered s m xs → Delivered s m ys
       → SameHeard (stateOf s m) (callsOf (length m) xs) (callsOf (length m) ys)
-      → (clock : ℕ) → Under clock (tableAfter s m xs) → Under clock (tableAfter s m ys)
-      → (a b : Marked) → Marks clock (stateAfter s xs) (memoryAfter m xs) a → Marks clock (stateAfter s ys) (memoryAfter m ys) b → a .number ≡ 0 → b .number ≡ 0 → a ≡ b
+      → (clock : ℕ) → Under clock (tableThen s m xs) → Under clock (tableThen s m ys)
+      → (a b : Marked) → Marks clock (stateThen s xs) (memoryThen m xs) a → Marks clock (stateThen s ys) (memoryThen m ys) b → a .number ≡ 0 → b .number ≡ 0 → a ≡ b
 
 -- ---- what the model's theorems say, over the promises
 

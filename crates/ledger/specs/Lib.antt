@@ -1,5 +1,6 @@
 pub mod Promises
 pub mod Inner
-pub mod Demands
 pub mod Calls
+pub mod Demands
+pub mod Traffic
 pub mod Returning

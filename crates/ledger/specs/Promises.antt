@@ -1,23 +1,25 @@
 -- What the public calls promise: answers, state and every lent buffer are those of the model's calls. Assumes nothing.
 use mathlib.Core.Path.{_≡_}
 use mathlib.Core.Bool.{Bool}
-use mathlib.Core.List.{List}
+use mathlib.Core.List.{List, _++_}
+use mathlib.Core.Option.{some}
 use Prim.Native.Nat.{ℕ, _+_, _-_, _*_, _≤_}
 use lib.ListN.{length, take, drop, replicate}
 use Rattle.model.specs.Figures.{mostNodes, dataLimit, tableBytes}
 use Rattle.wire.specs.Payment.{Payment}
+use Rattle.model.specs.Table.{Entry}
 use Rattle.model.specs.Begin.{Done as ModelDone, blank, begin}
 use Rattle.model.specs.Tick.{Sent as ModelSent, tick}
-use Rattle.model.specs.Receive.{Answer as ModelAnswer, receive}
+use Rattle.model.specs.Receive.{Call, Answer as ModelAnswer, receive}
 use Rattle.model.specs.Pay.{pay, purge}
 use Rattle.model.specs.Totals.{Summed as ModelSummed, total, sum}
 use Rattle.model.specs.Show.{Marks as ModelMarks, marks, shown, refusalShow}
-use Rattle.model.specs.Snapshot.{Saved as ModelSaved, resume, save}
+use Rattle.model.specs.Snapshot.{Snapshot, Saved as ModelSaved, load, resumed, resume, save}
 use Rattle.model.specs.Invariant.{Valid}
-use Rattle.table.specs.View.{live, metaAt, Arranged, Hashed, Stands}
+use Rattle.table.specs.View.{live, metaAt, Arranged, Hashed, Stands, SlotsStay, Lays, Wrote}
 use Rattle.node.specs.View.{stateOf, PeersRep}
 use Rattle.node.specs.declared.State.{State}
-use Rattle.exchange.specs.Datagram.{callOf}
+use Rattle.exchange.specs.Datagram.{callOf, tablesOf}
 use Rattle.ledger.specs.declared.answers.Done.{Done}
 use Rattle.ledger.specs.declared.answers.Sent.{Sent}
 use Rattle.ledger.specs.declared.answers.Answer.{Answer}
@@ -38,7 +40,7 @@ pub record AsLeft (s : State) (m : List ℕ) : Type 0 where
 
 -- ---- calls that change state
 
--- begin, resume, pay, purge
+-- begin, resume, pay, purge: answer and state; what is written in the table memory is said with each
 pub record Changes (d : ModelDone) (s : State) (m : List ℕ) (r : Done) (m′ : List ℕ) : Type 0 where
   pub is : record { number = r .number; state = stateOf (r .state) m′ } ≡ d
   pub left : AsLeft (r .state) m′
@@ -46,10 +48,11 @@ pub record Changes (d : ModelDone) (s : State) (m : List ℕ) (r : Done) (m′ :
   pub beyond : drop tableBytes m′ ≡ drop tableBytes m
   pub refused : ¬ (r .number ≡ 0) → (r .state ≡ s) × (m′ ≡ m)
 
--- tick: the first bytes of the room are what is sent, the others stay
+-- tick: the first bytes of the room are what is sent, the others stay; in the table memory the data of the table's entries are written, and nothing else
 pub record Sends (d : ModelSent) (s : State) (m q : List ℕ) (r : Sent) (m′ q′ : List ℕ) : Type 0 where
   pub is : record { number = r .number; state = stateOf (r .state) m′; bytes = take (r .length) q′ } ≡ d
   pub left : AsLeft (r .state) m′
+  pub wrote : r .number ≡ 0 → Wrote (s .table) m (d .state .table) (r .state .table) m′
   pub size : length m′ ≡ length m
   pub beyond : drop tableBytes m′ ≡ drop tableBytes m
   pub within : r .length ≤ length q′
@@ -57,10 +60,11 @@ pub record Sends (d : ModelSent) (s : State) (m q : List ℕ) (r : Sent) (m′ q
   pub rest : drop (r .length) q′ ≡ drop (r .length) q
   pub refused : ¬ (r .number ≡ 0) → (r .state ≡ s) × ((m′ ≡ m) × (q′ ≡ q))
 
--- receive
-pub record Answers (d : ModelAnswer) (s : State) (m q : List ℕ) (r : Answer) (m′ q′ : List ℕ) : Type 0 where
+-- receive: in the table memory the data of `tables`, entry after entry
+pub record Answers (d : ModelAnswer) (tables : List Entry) (s : State) (m q : List ℕ) (r : Answer) (m′ q′ : List ℕ) : Type 0 where
   pub is : record { number = r .number; state = stateOf (r .state) m′; bytes = take (r .length) q′; omitted = r .omitted; dropped = r .dropped } ≡ d
   pub left : AsLeft (r .state) m′
+  pub wrote : r .number ≡ 0 → Wrote (s .table) m tables (r .state .table) m′
   pub size : length m′ ≡ length m
   pub beyond : drop tableBytes m′ ≡ drop tableBytes m
   pub within : r .length ≤ length q′
@@ -104,24 +108,33 @@ pub record Shows (n : ℕ) (s : State) (m : List ℕ) (r : Extent) : Type 0 wher
 abbrev pub Blank : State → Type 0
 Blank r = (m : List ℕ) → AsLeft r m × (stateOf r m ≡ blank)
 
+-- nothing is written in the table memory
 abbrev pub Begins : ℕ → ℕ → List ℕ → State → List ℕ → Done → Type 0
 Begins own clock randoms s m r = Changes (begin own clock randoms (length m) (stateOf s m)) s m r m
 
+-- into a table that is new the snapshot's entries are written, and then those of the table that they become: our own data without the Peer TLVs
 abbrev pub Resumes : List ℕ → ℕ → List ℕ → State → List ℕ → Done → List ℕ → Type 0
-Resumes bytes clock randoms s m r m′ = Changes (resume clock bytes randoms (length m) (stateOf s m)) s m r m′
+Resumes bytes clock randoms s m r m′ =
+    Changes (resume clock bytes randoms (length m) (stateOf s m)) s m r m′
+    × (r .number ≡ 0 → (b : Snapshot) → load clock bytes ≡ some b → Lays m (b .entries ++ resumed clock randoms b .table) (r .state .table) m′)
 
+-- the entries of the table after each TLV are written, one table after the other
 abbrev pub Receives : List ℕ → ℕ → ℕ → Bool → List ℕ → State → List ℕ → List ℕ → Answer → List ℕ → List ℕ → Type 0
 Receives datagram clock endpoint unicast randoms s m q r m′ q′ =
-    Answers (receive (callOf datagram clock endpoint unicast randoms (length m) (length q)) (stateOf s m)) s m q r m′ q′
+    let c : Call = callOf datagram clock endpoint unicast randoms (length m) (length q) in
+    Answers (receive c (stateOf s m)) (tablesOf (stateOf s m) c) s m q r m′ q′
 
 abbrev pub Ticks : ℕ → ℕ → List ℕ → State → List ℕ → List ℕ → Sent → List ℕ → List ℕ → Type 0
 Ticks clock endpoint randoms s m q r m′ q′ = Sends (tick clock endpoint randoms (length m) (length q) (stateOf s m)) s m q r m′ q′
 
 abbrev pub Pays : ℕ → Payment → List ℕ → State → List ℕ → Done → List ℕ → Type 0
-Pays clock p randoms s m r m′ = Changes (pay clock p randoms (length m) (stateOf s m)) s m r m′
+Pays clock p randoms s m r m′ =
+    Changes (pay clock p randoms (length m) (stateOf s m)) s m r m′
+    × (r .number ≡ 0 → Wrote (s .table) m (pay clock p randoms (length m) (stateOf s m) .state .table) (r .state .table) m′)
 
+-- nothing is written in the table memory, and the nodes that stay keep their slots
 abbrev pub Purges : ℕ → List ℕ → State → List ℕ → Done → Type 0
-Purges clock randoms s m r = Changes (purge clock randoms (length m) (stateOf s m)) s m r m
+Purges clock randoms s m r = Changes (purge clock randoms (length m) (stateOf s m)) s m r m × SlotsStay (r .state .table) (s .table)
 
 abbrev pub Totals : ℕ → ℕ → State → List ℕ → Summed → Type 0
 Totals clock household s m r = summedOf r ≡ total clock household (length m) (stateOf s m)

@@ -23,7 +23,7 @@ use Rattle.model.specs.Trickle.{Trickle, fresh, spend, reset, pointDue, 
 use Rattle.model.specs.State.{State, Peer, Endpoint, withTable, withPeers, withTrickle, endpointAt, ownEntry, ownData, publishAs, publish, resetAll, settle}
 use Rattle.model.specs.Messages.{requestNetworkTlv, requestNodeTlv, endpointTlv, networkTlv, shortState, wholeState}
 use Rattle.model.specs.Decide.{Received, Decision, receivedOf, differs, decide, after}
-use Rattle.model.specs.Handle.{Context, Sender, Work, withState, withSender, withOut, omitOne, dropOne, piece, fits, reply, replies, mayAsk, hasAsked, askNetwork, touchBy, touch, digestNow, reachedNow, onRequestNetwork, onRequestNode, newPeer, roomForPeer, addPeer, greet, knows, onStranger, onEndpoint, countEqual, onEqual, onNetwork, onOwnState, carryOut, onState, onTlv, oneTlv, allTlvs}
+use Rattle.model.specs.Handle.{Context, Sender, Work, withState, withSender, withOut, omitOne, dropOne, piece, fits, reply, replies, mayAsk, hasAsked, askNetwork, touchBy, touch, digestNow, reachedNow, onRequestNetwork, onRequestNode, newPeer, roomForPeer, addPeer, greet, knows, onStranger, onEndpoint, countEqual, onEqual, onNetwork, onOwnState, carryOut, onState, onTlv, oneTlv, allTlvs, eachTable}
 use Rattle.model.specs.Receive.{Call, contextOf, startOf, handled, refusalReceive, answered, receive}
 use Rattle.model.specs.Tick.{goes, withoutPeers, someOf, dropSilent, withEvent, ticked, refusalTick, tick}
 
@@ -274,6 +274,14 @@ module _ (c : Context) (w : Work) where
   pub all-tlvs-none : allTlvs c [] w ≡ w
   unfolding allTlvs
   all-tlvs-none = refl
+
+  pub each-table-none : eachTable c [] w ≡ []
+  unfolding eachTable
+  each-table-none = refl
+
+  pub each-table-next : (t : List ℕ) (ts : List (List ℕ)) → eachTable c (t ∷ ts) w ≡ oneTlv c t w .state .table ++ eachTable c ts (oneTlv c t w)
+  unfolding eachTable
+  each-table-next t ts = refl
 
   pub all-tlvs-next : (t : List ℕ) (ts : List (List ℕ)) → allTlvs c (t ∷ ts) w ≡ allTlvs c ts (oneTlv c t w)
   unfolding allTlvs

@@ -192,3 +192,8 @@ oneTlv c t w = let v : Work = onTlv c (typeOf t) (valueOf t) w in cond (c .unica
 unfoldable pub allTlvs : Context → List (List ℕ) → Work → Work
 allTlvs c [] w = w
 allTlvs c (t ∷ ts) w = allTlvs c ts (oneTlv c t w)
+
+-- the entries of the table after each TLV, one table after the other
+unfoldable pub eachTable : Context → List (List ℕ) → Work → List Entry
+eachTable c [] w = []
+eachTable c (t ∷ ts) w = oneTlv c t w .state .table ++ eachTable c ts (oneTlv c t w)

@@ -15,7 +15,7 @@ use Rattle.model.specs.Figures.{mostPeers}
 use Rattle.model.specs.State.{isPeer, contacted, Peer as ModelPeer}
 use Rattle.node.specs.View.{peerOf, peersOf, PeersRep}
 use Rattle.node.specs.declared.peers.Peer.{Peer}
-use Rattle.base.proofs.Places.{map-set}
+use Rattle.base.proofs.Places.{map-set, getD-any}
 use Rattle.node.specs.declared.peers.Peers.{Peers}
 
 first-count : (p : Peers) → PeersRep p → length (take (p .count) (p .list)) ≡ p .count
@@ -79,6 +79,13 @@ peers-set p i e h = ap (map peerOf) (take-set-lt (p .count) (p .list) i e h) ∙
 pub peers-at : (p : Peers) (i : ℕ) (d : Peer) → i < p .count → getD (peersOf p) i (peerOf d) ≡ peerOf (getD (p .list) i d)
 unfolding peersOf
 peers-at p i d h = List·getD-map peerOf (take (p .count) (p .list)) i d ∙ ap peerOf (getD-take (p .count) (p .list) i d h)
+
+abbrev pub noPeer : ModelPeer
+noPeer = record { node = 0; theirs = 0; ours = 0; contact = 0 }
+
+-- the peer that the code reads at a place
+pub peer-at : (p : Peers) (i : ℕ) (d : Peer) → PeersRep p → i < p .count → peerOf (getD (p .list) i d) ≡ getD (peersOf p) i noPeer
+peer-at p i d k h = sym (peers-at p i d h) ∙ getD-any (peersOf p) i (peerOf d) noPeer (rw (peers-length p k) h)
 
 -- l with f applied to the elements before place i
 abbrev pub doneTo : (ModelPeer → ModelPeer) → List ModelPeer → ℕ → List ModelPeer

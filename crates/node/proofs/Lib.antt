@@ -5,3 +5,4 @@ pub mod Own
 pub mod Moves
 pub mod Settling
 pub mod Peerings
+pub mod Stripping

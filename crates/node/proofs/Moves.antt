@@ -12,9 +12,10 @@ use Rattle.wire.specs.Order.{place}
 use Rattle.model.specs.Figures.{tableBytes}
 use Rattle.model.specs.Table.{Entry, entryOf, look, put}
 use Rattle.model.specs.State.{State as ModelState, Peer as ModelPeer, Endpoint as ModelEndpoint, withTable, withPeers, withEndpoints, withEndpoint, ownData, publishAs, withTlv}
-use Rattle.table.specs.View.{view, dataOf, metaAt, Kept, Stands, Stored, Renumbered, Purged}
+use Rattle.table.specs.View.{view, dataOf, metaAt, Kept, Stands, Stored, Renumbered, Purged, Wrote}
 use Rattle.table.specs.declared.Table.{Table}
-use Rattle.node.specs.View.{endpointOf, endpointsOf, peersOf, stateOf, PeersRep, Rep, Held, Moved}
+use Rattle.table.proofs.Laying.{stays-self, kept-wrote, stored-wrote}
+use Rattle.node.specs.View.{endpointOf, endpointsOf, peersOf, stateOf, PeersRep, Rep, Held, Moved, Published}
 use Rattle.node.specs.declared.State.{State}
 use Rattle.node.specs.declared.Endpoint.{Endpoint}
 use Rattle.node.specs.declared.peers.Peers.{Peers}
@@ -35,6 +36,18 @@ module _ {a : ModelState} {m : List ℕ} {r : State} {m′ : List ℕ} (h : Move
 
   pub moved-held : isSome (look (a .own) (a .table)) ≡ true → Held r m′
   moved-held p = state-held r m′ (subst (λ (x : ModelState). isSome (look (x .own) (x .table)) ≡ true) (sym (h .is)) p)
+
+pub published-not : (s : State) (m : List ℕ) → Rep s m → Published (stateOf s m) s m s m
+published-not s m k = record { moved = moved-not s m k; wrote = kept-wrote (s .table) (s .table) m (stays-self (s .table)) (k .table) }
+
+-- what is published, and then a step that leaves the table alone
+pub published-then : (f : ModelState → ModelState) {a : ModelState} {s : State} {m : List ℕ} {r : State} {m′ : List ℕ} → Published a s m r m′
+    → {q : State} → q .table ≡ r .table → Moved (f (stateOf r m′)) m′ q m′ → Published (f a) s m q m′
+published-then f {s = s} {m = m} {m′ = m′} h e k =
+    record {
+      moved = moved-then (h .moved) f k;
+      wrote = subst (λ (t : Table). Wrote (s .table) m (view t m′) t m′) (sym e) (h .wrote);
+    }
 
 -- ---- another part
 
@@ -78,16 +91,22 @@ module _ (s : State) (m : List ℕ) (k : Rep s m) where
 
   -- an entry put in, one renumbered, those without a mark left out
   module _ (t : Table) where
-    pub stored-moved : (e : Entry) (m′ : List ℕ) (i : ℕ) → Stored e (s .table) m i t m′
-        → Moved (withTable (put e (stateOf s m .table)) (stateOf s m)) m (putTable t s) m′
-    stored-moved e m′ i o =
-        rw (state-table s m) (table-moved t m′ (put e (view (s .table) m)) (o .kept) (o .viewed) (o .beyond))
+    pub stored-put : (e : Entry) (m′ : List ℕ) (i : ℕ) → Stored e (s .table) m i t m′
+        → Published (withTable (put e (stateOf s m .table)) (stateOf s m)) s m (putTable t s) m′
+    stored-put e m′ i o =
+        record {
+          moved = rw (state-table s m) (table-moved t m′ (put e (view (s .table) m)) (o .kept) (o .viewed) (o .beyond));
+          wrote = stored-wrote e (s .table) t m m′ i (k .table) o;
+        }
 
-    pub renumbered-moved : (id seq age since i : ℕ) → Renumbered id seq age since (s .table) i t
-        → Moved (withTable (put (entryOf id seq (dataOf m (metaAt (s .table) i)) age since) (stateOf s m .table)) (stateOf s m)) m (putTable t s) m
-    renumbered-moved id seq age since i o =
-        rw (state-table s m)
-        (table-moved t m (put (entryOf id seq (dataOf m (metaAt (s .table) i)) age since) (view (s .table) m)) (o .kept m (k .table)) (o .viewed m) refl)
+    pub renumbered-put : (id seq age since i : ℕ) → Renumbered id seq age since (s .table) i t
+        → Published (withTable (put (entryOf id seq (dataOf m (metaAt (s .table) i)) age since) (stateOf s m .table)) (stateOf s m)) s m (putTable t s) m
+    renumbered-put id seq age since i o =
+        record {
+          moved = rw (state-table s m)
+              (table-moved t m (put (entryOf id seq (dataOf m (metaAt (s .table) i)) age since) (view (s .table) m)) (o .kept m (k .table)) (o .viewed m) refl);
+          wrote = kept-wrote (s .table) t m (o .slots) (o .kept m (k .table));
+        }
 
     pub purged-moved : (marks : List Bool) → Purged marks (s .table) t → Moved (withTable (keepBy marks (stateOf s m .table)) (stateOf s m)) m (putTable t s) m
     purged-moved marks o = rw (state-table s m) (table-moved t m (keepBy marks (view (s .table) m)) (o .kept m (k .table)) (o .viewed m) refl)
@@ -96,28 +115,29 @@ module _ (s : State) (m : List ℕ) (k : Rep s m) where
 
 module _ (s : State) (m : List ℕ) (i : ℕ) (k : Rep s m) (h : Stands (s .table) (s .own) i) (clock seq : ℕ) (t : Table) where
   -- our own entry put in is a publishing, its data as the model has them
-  published : (d d′ m′ : List ℕ) → d ≡ d′ → Moved (withTable (put (entryOf (s .own) seq d 0 clock) (stateOf s m .table)) (stateOf s m)) m (putTable t s) m′
-      → Moved (publishAs clock seq d′ (stateOf s m)) m (putTable t s) m′
+  own-put : (d d′ m′ : List ℕ) → d ≡ d′ → Published (withTable (put (entryOf (s .own) seq d 0 clock) (stateOf s m .table)) (stateOf s m)) s m (putTable t s) m′
+      → Published (publishAs clock seq d′ (stateOf s m)) s m (putTable t s) m′
   unfolding publishAs
-  published d d′ m′ e o =
-      moved-to o
+  own-put d d′ m′ e =
+      subst (λ (a : ModelState). Published a s m (putTable t s) m′)
       (ap (λ (n : ℕ). withTable (put (entryOf n seq d 0 clock) (stateOf s m .table)) (stateOf s m)) (sym (state-own s m))
       ∙ ap (λ (z : List ℕ). publishAs clock seq z (stateOf s m)) e)
 
-  pub renumber-moved : Renumbered (s .own) seq 0 clock (s .table) i t → Moved (publishAs clock seq (ownData (stateOf s m)) (stateOf s m)) m (putTable t s) m
-  renumber-moved o = published (dataOf m (metaAt (s .table) i)) (ownData (stateOf s m)) m (sym (own-data s m i k h)) (renumbered-moved s m k t (s .own) seq 0 clock i o)
+  pub renumber-published : Renumbered (s .own) seq 0 clock (s .table) i t → Published (publishAs clock seq (ownData (stateOf s m)) (stateOf s m)) s m (putTable t s) m
+  renumber-published o = own-put (dataOf m (metaAt (s .table) i)) (ownData (stateOf s m)) m (sym (own-data s m i k h)) (renumbered-put s m k t (s .own) seq 0 clock i o)
 
-  pub insert-moved : (m′ : List ℕ) (p : ℕ) (tlv d : List ℕ) → d ≡ dataOf m (metaAt (s .table) i) → spliced d p tlv ≡ joinAll (place tlv (tlvs d))
+  pub stored-published : (d d′ m′ : List ℕ) → d ≡ d′ → Stored (entryOf (s .own) seq d 0 clock) (s .table) m i t m′ → Published (publishAs clock seq d′ (stateOf s m)) s m (putTable t s) m′
+  stored-published d d′ m′ e o = own-put d d′ m′ e (stored-put s m k t (entryOf (s .own) seq d 0 clock) m′ i o)
+
+  pub insert-published : (m′ : List ℕ) (p : ℕ) (tlv d : List ℕ) → d ≡ dataOf m (metaAt (s .table) i) → spliced d p tlv ≡ joinAll (place tlv (tlvs d))
       → Stored (entryOf (s .own) seq (spliced (dataOf m (metaAt (s .table) i)) p tlv) 0 clock) (s .table) m i t m′
-      → Moved (publishAs clock seq (withTlv tlv (ownData (stateOf s m))) (stateOf s m)) m (putTable t s) m′
+      → Published (publishAs clock seq (withTlv tlv (ownData (stateOf s m))) (stateOf s m)) s m (putTable t s) m′
   unfolding withTlv
-  insert-moved m′ p tlv d q w o =
-      published (spliced (dataOf m (metaAt (s .table) i)) p tlv) (withTlv tlv (ownData (stateOf s m))) m′
+  insert-published m′ p tlv d q w =
+      stored-published (spliced (dataOf m (metaAt (s .table) i)) p tlv) (withTlv tlv (ownData (stateOf s m))) m′
       (ap (λ (z : List ℕ). spliced z p tlv) (sym q) ∙ w ∙ ap (withTlv tlv) (q ∙ sym (own-data s m i k h)))
-      (stored-moved s m k t (entryOf (s .own) seq (spliced (dataOf m (metaAt (s .table) i)) p tlv) 0 clock) m′ i o)
 
-  pub remove-moved : (m′ : List ℕ) (p n : ℕ) → Stored (entryOf (s .own) seq (cut (dataOf m (metaAt (s .table) i)) p n) 0 clock) (s .table) m i t m′
-      → Moved (publishAs clock seq (cut (ownData (stateOf s m)) p n) (stateOf s m)) m (putTable t s) m′
-  remove-moved m′ p n o =
-      published (cut (dataOf m (metaAt (s .table) i)) p n) (cut (ownData (stateOf s m)) p n) m′ (ap (λ (z : List ℕ). cut z p n) (sym (own-data s m i k h)))
-      (stored-moved s m k t (entryOf (s .own) seq (cut (dataOf m (metaAt (s .table) i)) p n) 0 clock) m′ i o)
+  pub remove-published : (m′ : List ℕ) (p n : ℕ) → Stored (entryOf (s .own) seq (cut (dataOf m (metaAt (s .table) i)) p n) 0 clock) (s .table) m i t m′
+      → Published (publishAs clock seq (cut (ownData (stateOf s m)) p n) (stateOf s m)) s m (putTable t s) m′
+  remove-published m′ p n =
+      stored-published (cut (dataOf m (metaAt (s .table) i)) p n) (cut (ownData (stateOf s m)) p n) m′ (ap (λ (z : List ℕ). cut z p n) (sym (own-data s m i k h)))

@@ -1,5 +1,5 @@
 -- Peers that come and are in contact, and an endpoint that changes: from what the parts ensure to the state of the model. Assumes nothing.
-use mathlib.Core.Path.{_≡_, refl, sym, ap, _∙_}
+use mathlib.Core.Path.{_≡_, refl, sym, ap, _∙_, subst}
 use mathlib.Core.Bool.{true}
 use mathlib.Core.List.{List, [], _∷_, _++_, map}
 use Prim.Native.Nat.{ℕ, pred, _<_}
@@ -13,22 +13,22 @@ use Rattle.model.specs.State.{State as ModelState, Peer as ModelPeer, Endpoint 
 use Rattle.model.specs.Handle.{addPeer}
 use Rattle.model.specs.Invariant.{Midway}
 use Rattle.model.proofs.KeptParts.{midway-own}
-use Rattle.node.specs.View.{peerOf, peersOf, endpointOf, stateOf, PeersRep, Rep, Held, Moved}
+use Rattle.node.specs.View.{peerOf, peersOf, endpointOf, stateOf, PeersRep, Rep, Held, Moved, Published}
 use Rattle.node.specs.declared.State.{State}
 use Rattle.node.specs.declared.Endpoint.{Endpoint}
 use Rattle.node.specs.declared.peers.Peer.{Peer}
 use Rattle.node.specs.declared.peers.Peers.{Peers}
 use Rattle.node.proofs.Contacts.{peers-length}
 use Rattle.node.proofs.Parts.{state-held, state-peers, putPeers, putEndpoints}
-use Rattle.node.proofs.Moves.{moved-to, moved-then, peers-moved, endpoint-moved}
+use Rattle.node.proofs.Moves.{moved-to, published-then, peers-moved, endpoint-moved}
 
 -- within a call our own node is held, and its data is a row
 module _ {clock : ℕ} (s : State) (m : List ℕ) (k : Midway clock (stateOf s m)) where
   pub midway-holds : Held s m
   midway-holds = state-held s m (k .table .held)
 
-  pub midway-meta : isRow (ownData (stateOf s m)) ≡ true
-  midway-meta = good-row dataLimit (ownData (stateOf s m)) (midway-own (stateOf s m) k .fine)
+  pub midway-row : isRow (ownData (stateOf s m)) ≡ true
+  midway-row = good-row dataLimit (ownData (stateOf s m)) (midway-own (stateOf s m) k .fine)
 
 -- ---- a peer more
 
@@ -42,26 +42,26 @@ peer-any-contact : (p : ModelPeer) (contact : ℕ) → peerTlv (record { node = 
 unfolding peerTlv
 peer-any-contact p contact = refl
 
-module _ (s : State) (m : List ℕ) (k : Rep s m) (clock seq : ℕ) (d : List ℕ) (r : State) (m′ : List ℕ) (h : Moved (publishAs clock seq d (stateOf s m)) m r m′) where
+module _ (s : State) (m : List ℕ) (k : Rep s m) (clock seq : ℕ) (d : List ℕ) (r : State) (m′ : List ℕ) (h : Published (publishAs clock seq d (stateOf s m)) s m r m′) where
   same-peers : peersOf (r .peers) ≡ stateOf s m .peers
-  same-peers = sym (state-peers r m′) ∙ ap (λ (z : ModelState). z .peers) (h .is) ∙ published-peers clock seq d (stateOf s m)
+  same-peers = sym (state-peers r m′) ∙ ap (λ (z : ModelState). z .peers) (h .moved .is) ∙ published-peers clock seq d (stateOf s m)
 
   -- so there is room for one more where there was
   pub room-left : s .peers .count < mostPeers → r .peers .count < mostPeers
   room-left l =
       let e : length (peersOf (r .peers)) ≡ length (peersOf (s .peers)) = ap length (same-peers ∙ state-peers s m) in
-      omega (arith, peers-length (s .peers) (k .peers), peers-length (r .peers) (h .rep .peers))
+      omega (arith, peers-length (s .peers) (k .peers), peers-length (r .peers) (h .moved .rep .peers))
 
   -- the peer is the last of those that there were, and its Peer TLV published under the next number
-  pub added-moved : (p : Peer) (x : Peers) (n : ℕ) (t : List ℕ) → n ≡ ownSeq (stateOf s m) → seq ≡ advance n 1
+  pub added-published : (p : Peer) (x : Peers) (n : ℕ) (t : List ℕ) → n ≡ ownSeq (stateOf s m) → seq ≡ advance n 1
       → t ≡ peerTlv (record { node = p .node; theirs = p .theirs; ours = p .ours; contact = 0 }) → d ≡ withTlv t (ownData (stateOf s m))
-      → PeersRep x → peersOf x ≡ peersOf (r .peers) ++ (peerOf p ∷ []) → Moved (addPeer clock (peerOf p) (stateOf s m)) m (putPeers x r) m′
+      → PeersRep x → peersOf x ≡ peersOf (r .peers) ++ (peerOf p ∷ []) → Published (addPeer clock (peerOf p) (stateOf s m)) s m (putPeers x r) m′
   unfolding addPeer
-  added-moved p x n t en es et ed g v =
+  added-published p x n t en es et ed g v =
       let after : ModelState = publish clock (withTlv (peerTlv (peerOf p)) (ownData (stateOf s m))) (stateOf s m) in
       let e : publishAs clock seq d (stateOf s m) ≡ after = rw (es, en, ed, et, peer-any-contact (peerOf p) 0) in
-      moved-then (moved-to h e) (withPeers (stateOf s m .peers ++ (peerOf p ∷ [])))
-      (peers-moved r m′ (h .rep) x (stateOf s m .peers ++ (peerOf p ∷ [])) g (v ∙ ap (λ (z : List ModelPeer). z ++ (peerOf p ∷ [])) same-peers))
+      published-then (withPeers (stateOf s m .peers ++ (peerOf p ∷ []))) (subst (λ (z : ModelState). Published z s m r m′) e h) refl
+      (peers-moved r m′ (h .moved .rep) x (stateOf s m .peers ++ (peerOf p ∷ [])) g (v ∙ ap (λ (z : List ModelPeer). z ++ (peerOf p ∷ [])) same-peers))
 
 -- ---- contact
 

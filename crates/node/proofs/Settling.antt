@@ -47,6 +47,7 @@ module _ (clock : ℕ) (randoms d : List ℕ) (s r : State) (n : length d ≡ 16
       (record {
         rep = λ m k. record { table = k .table; peers = k .peers; four = f (k .four); digest = n };
         is = λ m w. rw (← w, e);
+        table = refl;
       })
 
   -- the digest is as it was

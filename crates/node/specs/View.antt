@@ -10,7 +10,7 @@ use Rattle.model.specs.Table.{look}
 use Rattle.model.specs.Digest.{networkDigest}
 use Rattle.model.specs.State.{settle, State as ModelState, Peer as ModelPeer, Endpoint as ModelEndpoint}
 use Rattle.trickle.specs.View.{trickleOf}
-use Rattle.table.specs.View.{view, Kept}
+use Rattle.table.specs.View.{view, Kept, Wrote}
 use Rattle.node.specs.declared.State.{State}
 use Rattle.node.specs.declared.Endpoint.{Endpoint}
 use Rattle.node.specs.declared.peers.Peer.{Peer}
@@ -63,7 +63,13 @@ pub record Moved (after : ModelState) (m : List ℕ) (r : State) (m′ : List �
   pub size : length m′ ≡ length m
   pub beyond : drop tableBytes m′ ≡ drop tableBytes m
 
--- the end of a call at the reading `now`, where d is the network digest then
+-- such a step on a state, which may publish: no other byte of the memory is written than the data of the entries that the table then holds
+pub record Published (after : ModelState) (s : State) (m : List ℕ) (r : State) (m′ : List ℕ) : Type 0 where
+  pub moved : Moved after m r m′
+  pub wrote : Wrote (s .table) m (view (r .table) m′) (r .table) m′
+
+-- the end of a call at the reading `clock`, where d is the network digest then
 pub record Settled (clock : ℕ) (randoms d : List ℕ) (s r : State) : Type 0 where
   pub rep : (m : List ℕ) → Rep s m → Rep r m
   pub is : (m : List ℕ) → d ≡ networkDigest (s .own) clock (view (s .table) m) → stateOf r m ≡ settle clock randoms (stateOf s m)
+  pub table : r .table ≡ s .table

@@ -20,7 +20,7 @@ pub fn endpoint_at(s: State, i: u32) -> Endpoint
 // The state with e for endpoint i.
 pub fn with_endpoint(s: State, i: u32, e: Endpoint) -> State
     requires { ⌜ (length (s .endpoints) ≡ 4) × ((1 ≤ i) × (i ≤ 4)) ⌝ }
-    ensures { λ r. ⌜ ((m : List ℕ) → Rep s m → Rep r m) × ((m : List ℕ) → stateOf r m ≡ withEndpoint i (endpointOf e) (stateOf s m)) ⌝ }
+    ensures { λ r. ⌜ ((m : List ℕ) → Rep s m → Rep r m) × ((m : List ℕ) → stateOf r m ≡ withEndpoint i (endpointOf e) (stateOf s m)) × (r .table ≡ s .table) ⌝ }
 {
     let k = (i - 1) as usize;
     let mut r = s;

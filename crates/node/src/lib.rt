@@ -1,5 +1,6 @@
 // The node's state: table, peers and endpoints by value; publishing; what stands last in a call that changes state.
 pub mod endpoints;
+pub mod leaving;
 pub mod peering;
 pub mod peers;
 pub mod publish;

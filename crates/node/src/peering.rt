@@ -17,12 +17,12 @@ ghost use Rattle.model.specs.Trickle.{hear};
 ghost use Rattle.model.specs.State.{ownData, contacted, withPeers, withTrickle, withNext, endpointAt, withEndpoint};
 ghost use Rattle.model.specs.Handle.{addPeer};
 ghost use Rattle.model.specs.Invariant.{Midway};
-ghost use Rattle.node.specs.View.{peerOf, stateOf, PeersRep, Rep, Moved};
+ghost use Rattle.node.specs.View.{peerOf, stateOf, PeersRep, Rep, Moved, Published};
 
 // One peer more, and its Peer TLV published.
 pub fn add_peer(s: State, mem: &mut [u8], clock: u64, p: Peer) -> State
     requires { ⌜ Rep s (now mem) × (Midway clock (stateOf s (now mem)) × ((s .peers .count < mostPeers) × (length (ownData (stateOf s (now mem))) + 16 ≤ dataLimit))) ⌝ }
-    ensures { λ r. ⌜ Moved (addPeer clock (peerOf p) (stateOf s (now (mem .entry)))) (now (mem .entry)) r (now (mem .exit)) ⌝ }
+    ensures { λ r. ⌜ Published (addPeer clock (peerOf p) (stateOf s (now (mem .entry)))) s (now (mem .entry)) r (now (mem .exit)) ⌝ }
 {
     let tlv = peer_tlv(p.node, p.theirs, p.ours);
     let seq = advanced(own_seq(s, mem), 1);

@@ -17,7 +17,7 @@ ghost use Rattle.model.specs.Figures.{dataLimit};
 ghost use Rattle.model.specs.Sequence.{advance};
 ghost use Rattle.model.specs.State.{ownSeq, ownData, publishAs, withTlv};
 ghost use Rattle.table.specs.View.{Stands};
-ghost use Rattle.node.specs.View.{stateOf, Rep, Held, Moved};
+ghost use Rattle.node.specs.View.{stateOf, Rep, Held, Published};
 
 // n + k modulo 2^32.
 pub fn advanced(n: u32, k: u32) -> u32
@@ -60,7 +60,7 @@ pub fn own_data<'a>(s: State, mem: &'a [u8]) -> &'a [u8]
 // The number `seq` for our own node, its data as they are.
 pub fn publish_as(s: State, mem: &[u8], clock: u64, seq: u32) -> State
     requires { ⌜ Rep s (now mem) × Held s (now mem) ⌝ }
-    ensures { λ r. ⌜ Moved (publishAs clock seq (ownData (stateOf s (now (mem .entry)))) (stateOf s (now (mem .entry)))) (now (mem .entry)) r (now (mem .entry)) ⌝ }
+    ensures { λ r. ⌜ Published (publishAs clock seq (ownData (stateOf s (now (mem .entry)))) (stateOf s (now (mem .entry)))) s (now (mem .entry)) r (now (mem .entry)) ⌝ }
 {
     let i = own_place(s, mem);
     let mut r = s;
@@ -71,7 +71,7 @@ pub fn publish_as(s: State, mem: &[u8], clock: u64, seq: u32) -> State
 // The number `seq` for our own node, and a TLV put in its place in its data.
 pub fn publish_with(s: State, mem: &mut [u8], clock: u64, seq: u32, tlv: &[u8]) -> State
     requires { ⌜ Rep s (now mem) × (Held s (now mem) × ((isRow (ownData (stateOf s (now mem))) ≡ true) × (length (ownData (stateOf s (now mem))) + length (now tlv) ≤ dataLimit))) ⌝ }
-    ensures { λ r. ⌜ Moved (publishAs clock seq (withTlv (now (tlv .entry)) (ownData (stateOf s (now (mem .entry))))) (stateOf s (now (mem .entry)))) (now (mem .entry)) r (now (mem .exit)) ⌝ }
+    ensures { λ r. ⌜ Published (publishAs clock seq (withTlv (now (tlv .entry)) (ownData (stateOf s (now (mem .entry))))) (stateOf s (now (mem .entry)))) s (now (mem .entry)) r (now (mem .exit)) ⌝ }
 {
     let i = own_place(s, mem);
     let p = place_of(data_of(s.table, mem, i), tlv);
@@ -83,7 +83,7 @@ pub fn publish_with(s: State, mem: &mut [u8], clock: u64, seq: u32, tlv: &[u8]) 
 // The number `seq` for our own node, and its data without the n bytes from place p.
 pub fn publish_cut(s: State, mem: &mut [u8], clock: u64, seq: u32, p: usize, n: usize) -> State
     requires { ⌜ Rep s (now mem) × (Held s (now mem) × (p + n ≤ length (ownData (stateOf s (now mem))))) ⌝ }
-    ensures { λ r. ⌜ Moved (publishAs clock seq (cut (ownData (stateOf s (now (mem .entry)))) p n) (stateOf s (now (mem .entry)))) (now (mem .entry)) r (now (mem .exit)) ⌝ }
+    ensures { λ r. ⌜ Published (publishAs clock seq (cut (ownData (stateOf s (now (mem .entry)))) p n) (stateOf s (now (mem .entry)))) s (now (mem .entry)) r (now (mem .exit)) ⌝ }
 {
     let i = own_place(s, mem);
     let mut r = s;

@@ -13,14 +13,17 @@ use Rattle.base.proofs.Tests.{no-way}
 use Rattle.base.proofs.Lists.{drop-later}
 use Rattle.base.proofs.Written.{written-length, written-taken, written-left}
 use Rattle.model.specs.Figures.{mostBytes}
+use Rattle.model.specs.Table.{Entry}
 use Rattle.model.specs.State.{State as ModelState}
 use Rattle.model.specs.Handle.{Work as ModelWork, withState, withSender, withOut, omitOne, dropOne, digestNow}
 use Rattle.model.specs.Invariant.{Midway}
-use Rattle.table.specs.View.{view}
+use Rattle.table.specs.View.{view, SlotsStay, Wrote}
+use Rattle.table.specs.declared.Table.{Table}
+use Rattle.table.proofs.Laying.{stays-self, wrote-later, wrote-still, kept-wrote}
 use Rattle.reach.specs.declared.Reached.{Reached}
 use Rattle.reach.specs.Marks.{Reaching}
 use Rattle.node.specs.declared.State.{State}
-use Rattle.node.specs.View.{stateOf, Rep, Moved}
+use Rattle.node.specs.View.{stateOf, Rep, Moved, Published}
 use Rattle.reply.specs.declared.Context.{Context}
 use Rattle.reply.specs.declared.Sender.{Sender}
 use Rattle.reply.specs.declared.Work.{Work}
@@ -148,34 +151,46 @@ module _ {clock : ℕ} {w : Work} {m r : List ℕ} (h : Sound clock w m r) where
 module _ {c : Context} {w : Work} {m r : List ℕ} where
   -- a step that leaves memory and room as they were
   pub stepped-still : (k : ℕ) (f : ModelWork → ModelWork) (v : Work) → workOf v m r ≡ f (workOf w m r) → Sound (c .clock) v m r
-      → v .omitted ≤ w .omitted + k → v .dropped ≤ w .dropped + k → v .used ≡ w .used → Stepped c k f w m r v m r
-  stepped-still k f v e h p q u =
-      record { is = e; sound = h; omitted = p; dropped = q; size = refl; beyond = refl; room = refl; onward = omega arith; rest = refl }
+      → v .omitted ≤ w .omitted + k → v .dropped ≤ w .dropped + k → v .used ≡ w .used → v .state .table ≡ w .state .table → Stepped c k f w m r v m r
+  stepped-still k f v e h p q u t =
+      record {
+        is = e;
+        sound = h;
+        omitted = p;
+        dropped = q;
+        wrote = kept-wrote (w .state .table) (v .state .table) m (subst (SlotsStay (w .state .table)) (sym t) (stays-self (w .state .table))) (h .rep .table);
+        size = refl;
+        beyond = refl;
+        room = refl;
+        onward = omega arith;
+        rest = refl;
+      }
 
   -- a step that does nothing
   pub stepped-none : Sound (c .clock) w m r → Stepped c 0 (λ x. x) w m r w m r
-  stepped-none h = stepped-still 0 (λ x. x) w refl h (omega arith) (omega arith) refl
+  stepped-none h = stepped-still 0 (λ x. x) w refl h (omega arith) (omega arith) refl refl
 
   module _ {k : ℕ} {f : ModelWork → ModelWork} {v : Work} {m′ r′ : List ℕ} (h : Stepped c k f w m r v m′ r′) where
     -- the model's step is another's at this work
     pub stepped-to : (g : ModelWork → ModelWork) → f (workOf w m r) ≡ g (workOf w m r) → Stepped c k g w m r v m′ r′
     stepped-to g e =
-        record { is = h .is ∙ e; sound = h .sound; omitted = h .omitted; dropped = h .dropped; size = h .size; beyond = h .beyond; room = h .room; onward = h .onward; rest = h .rest }
+        record { is = h .is ∙ e; sound = h .sound; omitted = h .omitted; dropped = h .dropped; wrote = h .wrote; size = h .size; beyond = h .beyond; room = h .room; onward = h .onward; rest = h .rest }
 
     -- a larger bound
     pub stepped-more : (n : ℕ) → k ≤ n → Stepped c n f w m r v m′ r′
     stepped-more n p =
-        record { is = h .is; sound = h .sound; omitted = omega (arith, h .omitted); dropped = omega (arith, h .dropped); size = h .size; beyond = h .beyond; room = h .room; onward = h .onward; rest = h .rest }
+        record { is = h .is; sound = h .sound; omitted = omega (arith, h .omitted); dropped = omega (arith, h .dropped); wrote = h .wrote; size = h .size; beyond = h .beyond; room = h .room; onward = h .onward; rest = h .rest }
 
     -- the state afterwards is the model's
     pub stepped-state : stateOf (v .state) m′ ≡ f (workOf w m r) .state
     stepped-state = sym (work-state v m′ r′) ∙ ap (λ (x : ModelWork). x .state) (h .is)
 
-    -- one step after the other, their bounds added
-    pub stepped-then : {j : ℕ} {g : ModelWork → ModelWork} {u : Work} {m″ r″ : List ℕ} → Stepped c j g v m′ r′ u m″ r″
-        → Stepped c (k + j) (λ x. g (f x)) w m r u m″ r″
-    stepped-then {g = g} {u = u} n =
+    -- one step after the other, their bounds added; w says what both write
+    stepped-both : {j : ℕ} {g : ModelWork → ModelWork} {u : Work} {m″ r″ : List ℕ} → Stepped c j g v m′ r′ u m″ r″
+        → Wrote (w .state .table) m (view (u .state .table) m″) (u .state .table) m″ → Stepped c (k + j) (λ x. g (f x)) w m r u m″ r″
+    stepped-both {g = g} {u = u} n x =
         record {
+          wrote = x;
           is = n .is ∙ ap g (h .is);
           sound = n .sound;
           omitted = omega (arith, h .omitted, n .omitted);
@@ -187,6 +202,14 @@ module _ {c : Context} {w : Work} {m r : List ℕ} where
           rest = n .rest ∙ drop-later r r′ (v .used) (u .used) (n .onward) (h .rest);
         }
 
+    -- the second leaves memory and entries as the first left them
+    pub stepped-last : {j : ℕ} {g : ModelWork → ModelWork} {u : Work} {r″ : List ℕ} → Stepped c j g v m′ r′ u m′ r″ → view (u .state .table) m′ ≡ view (v .state .table) m′
+        → Stepped c (k + j) (λ x. g (f x)) w m r u m′ r″
+    stepped-last {u = u} n e =
+        stepped-both n
+        (subst (λ (es : List Entry). Wrote (w .state .table) m es (u .state .table) m′) (sym e)
+        (wrote-still (w .state .table) (v .state .table) (u .state .table) m (view (v .state .table) m′) m′ (h .wrote) (n .wrote .slots)))
+
     -- after a step that keeps the invariant the next one can come
     pub ready-next : Ready c w m r → Midway (c .clock) (f (workOf w m r) .state) → v .omitted ≤ 1000000 → v .dropped ≤ 1000000 → Ready c v m′ r′
     ready-next g i p q =
@@ -196,6 +219,12 @@ module _ {c : Context} {w : Work} {m r : List ℕ} where
     pub ready-still : Ready c w m r → f (workOf w m r) .state ≡ workOf w m r .state → v .omitted ≤ 1000000 → v .dropped ≤ 1000000 → Ready c v m′ r′
     ready-still g e p q = ready-next g (rw (e, work-state w m r) (g .midway)) p q
 
+-- one step after another that left the memory alone
+pub stepped-then : {c : Context} {w : Work} {m r : List ℕ} {k : ℕ} {f : ModelWork → ModelWork} {v : Work} {r′ : List ℕ} → Stepped c k f w m r v m r′
+    → {j : ℕ} {g : ModelWork → ModelWork} {u : Work} {m″ r″ : List ℕ} → Stepped c j g v m r′ u m″ r″ → Stepped c (k + j) (λ x. g (f x)) w m r u m″ r″
+stepped-then {w = w} {m = m} {v = v} h {u = u} {m″ = m″} n =
+    stepped-both h n (wrote-later (w .state .table) (v .state .table) (u .state .table) m (view (u .state .table) m″) m″ (h .wrote .slots) (n .wrote))
+
 -- ---- steps on one part
 
 module _ {c : Context} {w : Work} {m r : List ℕ} (h : Sound (c .clock) w m r) (f : ModelWork → ModelWork) where
@@ -204,19 +233,20 @@ module _ {c : Context} {w : Work} {m r : List ℕ} (h : Sound (c .clock) w m r) 
       → f (workOf w m r) ≡ withState a (workOf w m r) → Stepped c 0 f w m r (putState s (w .fresh) w) m r
   stepped-kept a s k o t e =
       stepped-still 0 f (putState s (w .fresh) w) (state-put w m r s (w .fresh) m ∙ ap (λ (x : ModelState). withState x (workOf w m r)) (k .is) ∙ sym e)
-      (sound-state h s (k .rep) o t) (omega arith) (omega arith) refl
+      (sound-state h s (k .rep) o t) (omega arith) (omega arith) refl t
 
   -- the state with its table
-  pub stepped-anew : (a : ModelState) (s : State) (m′ : List ℕ) → Moved a m s m′
+  pub stepped-anew : (a : ModelState) (s : State) (m′ : List ℕ) → Published a (w .state) m s m′
       → f (workOf w m r) ≡ withState a (workOf w m r) → Stepped c 0 f w m r (putState s false w) m′ r
   stepped-anew a s m′ k e =
       record {
-        is = state-put w m r s false m′ ∙ ap (λ (x : ModelState). withState x (workOf w m r)) (k .is) ∙ sym e;
-        sound = sound-anew h s m′ (k .rep);
+        is = state-put w m r s false m′ ∙ ap (λ (x : ModelState). withState x (workOf w m r)) (k .moved .is) ∙ sym e;
+        sound = sound-anew h s m′ (k .moved .rep);
         omitted = omega arith;
         dropped = omega arith;
-        size = k .size;
-        beyond = k .beyond;
+        wrote = k .wrote;
+        size = k .moved .size;
+        beyond = k .moved .beyond;
         room = refl;
         onward = omega arith;
         rest = refl;
@@ -226,17 +256,17 @@ module _ {c : Context} {w : Work} {m r : List ℕ} (h : Sound (c .clock) w m r) 
   pub stepped-sender : (s : Sender) → s .known ≡ true → f (workOf w m r) ≡ withSender (record { node = s .node; endpoint = s .endpoint }) (workOf w m r)
       → Stepped c 0 f w m r (putSender s w) m r
   stepped-sender s k e =
-      stepped-still 0 f (putSender s w) (sender-put w m r s k ∙ sym e) (sound-sender h s) (omega arith) (omega arith) refl
+      stepped-still 0 f (putSender s w) (sender-put w m r s k ∙ sym e) (sound-sender h s) (omega arith) (omega arith) refl refl
 
   -- a reply left out
   pub stepped-omitted : f (workOf w m r) ≡ omitOne (workOf w m r) → Stepped c 1 f w m r (putOmitted (w .omitted + 1) w) m r
   stepped-omitted e =
-      stepped-still 1 f (putOmitted (w .omitted + 1) w) (omitted-put w m r ∙ sym e) (sound-omitted h (w .omitted + 1)) (omega arith) (omega arith) refl
+      stepped-still 1 f (putOmitted (w .omitted + 1) w) (omitted-put w m r ∙ sym e) (sound-omitted h (w .omitted + 1)) (omega arith) (omega arith) refl refl
 
   -- a TLV dropped for room
   pub stepped-dropped : f (workOf w m r) ≡ dropOne (workOf w m r) → Stepped c 1 f w m r (putDropped (w .dropped + 1) w) m r
   stepped-dropped e =
-      stepped-still 1 f (putDropped (w .dropped + 1) w) (dropped-put w m r ∙ sym e) (sound-dropped h (w .dropped + 1)) (omega arith) (omega arith) refl
+      stepped-still 1 f (putDropped (w .dropped + 1) w) (dropped-put w m r ∙ sym e) (sound-dropped h (w .dropped + 1)) (omega arith) (omega arith) refl refl
 
   -- the bytes x written to the room
   pub stepped-written : (x r′ : List ℕ) (n : ℕ) → r′ ≡ written r (w .used) x → n ≡ w .used + length x → n ≤ mostBytes
@@ -249,6 +279,7 @@ module _ {c : Context} {w : Work} {m r : List ℕ} (h : Sound (c .clock) w m r) 
         sound = sound-used h n r′ p z;
         omitted = omega arith;
         dropped = omega arith;
+        wrote = kept-wrote (w .state .table) (w .state .table) m (stays-self (w .state .table)) (h .rep .table);
         size = refl;
         beyond = refl;
         room = z;
@@ -288,16 +319,17 @@ module _ {c : Context} {w : Work} {m : List ℕ} {v : Work} (h : Refreshed c w m
 
   pub refreshed-stepped : (r : List ℕ) → Sound (c .clock) w m r → Stepped c 0 (λ x. x) w m r v m r
   refreshed-stepped r k =
-      stepped-still 0 (λ x. x) v (refreshed-work r) (refreshed-sound r k) (omega (arith, h .omitted)) (omega (arith, h .dropped)) (h .used)
+      stepped-still 0 (λ x. x) v (refreshed-work r) (refreshed-sound r k) (omega (arith, h .omitted)) (omega (arith, h .dropped)) (h .used) (ap (λ (s : State). s .table) (h .state))
 
   -- a step from there is a step from the work before
   pub refreshed-then : {k : ℕ} {f : ModelWork → ModelWork} {r : List ℕ} {u : Work} {m′ r′ : List ℕ} → Stepped c k f v m r u m′ r′ → Stepped c k f w m r u m′ r′
-  refreshed-then {f = f} {r = r} s =
+  refreshed-then {f = f} {r = r} {u = u} {m′ = m′} s =
       record {
         is = s .is ∙ ap f (refreshed-work r);
         sound = s .sound;
         omitted = omega (arith, s .omitted, h .omitted);
         dropped = omega (arith, s .dropped, h .dropped);
+        wrote = subst (λ (t : Table). Wrote t m (view (u .state .table) m′) (u .state .table) m′) (ap (λ (x : State). x .table) (h .state)) (s .wrote);
         size = s .size;
         beyond = s .beyond;
         room = s .room;

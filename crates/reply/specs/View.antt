@@ -9,7 +9,7 @@ use Rattle.model.specs.Figures.{mostBytes, tableBytes, lastReading}
 use Rattle.model.specs.Handle.{Context as ModelContext, Sender as ModelSender, Work as ModelWork}
 use Rattle.model.specs.Invariant.{Midway}
 use Rattle.table.specs.declared.Table.{Table}
-use Rattle.table.specs.View.{view}
+use Rattle.table.specs.View.{view, Wrote}
 use Rattle.reach.specs.Marks.{Reaching}
 use Rattle.node.specs.View.{stateOf, Rep}
 use Rattle.reply.specs.declared.Context.{Context}
@@ -62,6 +62,7 @@ pub record Stepped (c : Context) (k : ℕ) (f : ModelWork → ModelWork) (w : Wo
   pub sound : Sound (c .clock) w′ m′ r′
   pub omitted : w′ .omitted ≤ w .omitted + k
   pub dropped : w′ .dropped ≤ w .dropped + k
+  pub wrote : Wrote (w .state .table) m (view (w′ .state .table) m′) (w′ .state .table) m′
   pub size : length m′ ≡ length m
   pub beyond : drop tableBytes m′ ≡ drop tableBytes m
   pub room : length r′ ≡ length r

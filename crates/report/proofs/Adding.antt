@@ -6,7 +6,7 @@ use mathlib.Core.Option.{Option, none, some}
 use Prim.Native.Nat.{ℕ, _+_, _-_, _*_, _/_, _≤_, _<_}
 use native.Mathlib.Omega.{arith}
 use lib.ListN.{length, take, drop, set, length-set}
-use lib.Seq.{getD-set-same, getD-set-other}
+use lib.Seq.{getD-set-same, getD-set-other, drop-set-lt}
 use lib.Dec.{eqb}
 use lib.IntN.{ℤ, pos, _+ℤ_, +ℤ-idr}
 use lib.Signed.{mag}
@@ -30,31 +30,50 @@ use Rattle.model.specs.Table.{Statement}
 use Rattle.model.specs.Totals.{paymentsIn, readable, totalOf}
 use Rattle.model.proofs.Totals.{paymentsOf, payments-append, payments-end, payments-pass, payments-meet, readable-no, readable-yes, readable-append, tally, tally-none, tally-pass, tally-onward, ofHousehold, total-is, total-nodes}
 use Rattle.accounts.specs.Tallied.{alone, amountLimit, mostPayments}
-use Rattle.report.specs.Steps.{households, Wide, sumAt, markAt, Small, pays, addSum, addMark, Added, paidIn, Summed, Totals, Cleared}
+use Rattle.report.specs.Steps.{households, Wide, sumAt, markAt, Small, Behind, pays, addSum, addMark, Added, paidIn, Summed, Totals, Cleared}
+
+-- ---- behind the households
+
+module _ (s₀ : List ℤ) (b₀ : List Bool) where
+  pub behind-none : Behind s₀ b₀ s₀ b₀
+  behind-none = record { sums = refl; marks = refl }
+
+  module _ (s : List ℤ) (b : List Bool) (k : Behind s₀ b₀ s b) where
+    -- a store for a household
+    behind-set : (h : ℕ) (x : ℤ) (y : Bool) → h < households → Behind s₀ b₀ (set s h x) (set b h y)
+    behind-set h x y l = record { sums = drop-set-lt households s h x l ∙ k .sums; marks = drop-set-lt households b h y l ∙ k .marks }
+
+    pub behind-then : (s′ : List ℤ) (b′ : List Bool) → Behind s b s′ b′ → Behind s₀ b₀ s′ b′
+    behind-then s′ b′ j = record { sums = j .sums ∙ k .sums; marks = j .marks ∙ k .marks }
 
 -- ---- cleared place by place
 
-abbrev pub ClearedTo : ℕ → List ℤ → List Bool → Type 0
-ClearedTo i s b = ((h : ℕ) → h < i → sumAt s h ≡ pos 0) × ((h : ℕ) → h < i → markAt b h ≡ false)
+pub record ClearedTo (i : ℕ) (s₀ : List ℤ) (b₀ : List Bool) (s : List ℤ) (b : List Bool) : Type 0 where
+  pub sums : (h : ℕ) → h < i → sumAt s h ≡ pos 0
+  pub marks : (h : ℕ) → h < i → markAt b h ≡ false
+  pub behind : Behind s₀ b₀ s b
 
-module _ (s : List ℤ) (b : List Bool) where
-  pub clear-none : ClearedTo 0 s b
-  clear-none = (λ h l. absurd (omega arith), λ h l. absurd (omega arith))
+module _ (s₀ : List ℤ) (b₀ : List Bool) where
+  pub clear-none : ClearedTo 0 s₀ b₀ s₀ b₀
+  clear-none = record { sums = λ h l. absurd (omega arith); marks = λ h l. absurd (omega arith); behind = behind-none s₀ b₀ }
 
-  pub clear-step : (i : ℕ) → i < length s → i < length b → ClearedTo i s b → ClearedTo (i + 1) (set s i (pos 0)) (set b i false)
-  clear-step i p q k = (
-    λ h l. by-order h i
-        (λ u. getD-set-other s i h (pos 0) (pos 0) (λ e. omega arith) ∙ k .0 h u)
-        (λ u. rw u (getD-set-same s i (pos 0) (pos 0) p))
-        (λ u. absurd (omega arith)),
-    λ h l. by-order h i
-        (λ u. getD-set-other b i h false false (λ e. omega arith) ∙ k .1 h u)
-        (λ u. rw u (getD-set-same b i false false q))
-        (λ u. absurd (omega arith)),
-  )
+  module _ (s : List ℤ) (b : List Bool) (i : ℕ) (k : ClearedTo i s₀ b₀ s b) where
+    pub clear-step : i < households → i < length s → i < length b → ClearedTo (i + 1) s₀ b₀ (set s i (pos 0)) (set b i false)
+    clear-step n p q =
+        record {
+          sums = λ h l. by-order h i
+              (λ u. getD-set-other s i h (pos 0) (pos 0) (λ e. omega arith) ∙ k .sums h u)
+              (λ u. rw u (getD-set-same s i (pos 0) (pos 0) p))
+              (λ u. absurd (omega arith));
+          marks = λ h l. by-order h i
+              (λ u. getD-set-other b i h false false (λ e. omega arith) ∙ k .marks h u)
+              (λ u. rw u (getD-set-same b i false false q))
+              (λ u. absurd (omega arith));
+          behind = behind-set s₀ b₀ s b (k .behind) i (pos 0) false n;
+        }
 
-  pub clear-all : (i : ℕ) → ClearedTo i s b → households ≤ i → Cleared s b
-  clear-all i k l = record { sums = λ h p. k .0 h (omega arith); marks = λ h p. k .1 h (omega arith) }
+    pub clear-all : households ≤ i → Cleared s b × Behind s₀ b₀ s b
+    clear-all l = (record { sums = λ h p. k .sums h (omega arith); marks = λ h p. k .marks h (omega arith) }, k .behind)
 
 -- ---- one payment: its household's sum and mark change, and no other's
 
@@ -175,10 +194,11 @@ pub record Going (d : List ℕ) (s₀ : List ℤ) (b₀ : List Bool) (s : List �
   pub sums : (h : ℕ) → h < households → sumAt s h +ℤ tally (ofHousehold h) (paymentsOf (drop at d)) ≡ sumAt s₀ h +ℤ tally (ofHousehold h) (paymentsOf d)
   pub marks : (h : ℕ) → h < households
       → markAt b h || any (ofHousehold h) (readable (paymentsOf (drop at d))) ≡ markAt b₀ h || any (ofHousehold h) (readable (paymentsOf d))
+  pub behind : Behind s₀ b₀ s b
 
 module _ (d : List ℕ) (s₀ : List ℤ) (b₀ : List Bool) where
   pub going-start : Wide s₀ b₀ → Small mostPayments s₀ → Going d s₀ b₀ s₀ b₀ 0
-  going-start w m = record { wide = w; small = small-more mostPayments (mostPayments + 0 / 4) s₀ (omega arith) m; sums = λ h i. refl; marks = λ h i. refl }
+  going-start w m = record { wide = w; small = small-more mostPayments (mostPayments + 0 / 4) s₀ (omega arith) m; sums = λ h i. refl; marks = λ h i. refl; behind = behind-none s₀ b₀ }
 
   module _ (s : List ℤ) (b : List Bool) (at : ℕ) (g : Going d s₀ b₀ s b at) where
     -- there is room for one more
@@ -197,6 +217,7 @@ module _ (d : List ℕ) (s₀ : List ℤ) (b₀ : List Bool) where
             small = small-more (mostPayments + at / 4) (mostPayments + h .next / 4) s (omega (arith, next-far)) (g .small);
             sums = λ x i. rw (← tally-same (ofHousehold x) (paymentsOf (drop at d)) (paymentsOf (drop (h .next) d)) e) (g .sums x i);
             marks = λ x i. rw (← e) (g .marks x i);
+            behind = g .behind;
           }
 
       unread : h .kind ≡ 40 → readPayment (take (h .len) (drop (h .start) d)) ≡ none → readable (paymentsOf (drop at d)) ≡ readable (paymentsOf (drop (h .next) d))
@@ -233,13 +254,15 @@ module _ (d : List ℕ) (s₀ : List ℤ) (b₀ : List Bool) where
 
         going-paid : Going d s₀ b₀ (addSum (some p) s) (addMark (some p) b) (h .next)
         going-paid =
-            let l : mag (p .amount) < amountLimit = payable-mag p (read-payable (take (h .len) (drop (h .start) d)) p r) in
+            let f : Payable p = read-payable (take (h .len) (drop (h .start) d)) p r in
+            let l : mag (p .amount) < amountLimit = payable-mag p f in
             record {
               wide = added-wide (some p) s b (g .wide);
               small = small-more (mostPayments + at / 4 + 1) (mostPayments + h .next / 4) (addSum (some p) s) (omega (arith, next-far))
                   (added-small (mostPayments + at / 4) p s l (g .wide .sums) (g .small));
               sums = λ x i. sum-on x i ∙ g .sums x i;
               marks = λ x i. mark-on x i ∙ g .marks x i;
+              behind = behind-set s₀ b₀ s b (g .behind) (p .household) (sumAt s (p .household) +ℤ p .amount) true (omega (arith, f .high));
             }
 
       -- whatever it is
@@ -255,14 +278,16 @@ module _ (d : List ℕ) (s₀ : List ℤ) (b₀ : List Bool) where
           (λ p e. rw (a .sums, a .marks, pays-read (h .kind) v y, e) (going-paid y p e)))
           (λ i. let n : h .kind ≡ 40 → ⊥ = eqb-false (h .kind) 40 i in off (pays-other (h .kind) v n) (ap readable (payments-pass d at h t n)))
 
-    pub going-end : length d ≤ at → Summed (alone d ∷ []) s₀ b₀ s b
+    pub going-end : length d ≤ at → Summed (alone d ∷ []) s₀ b₀ s b × Behind s₀ b₀ s b
     going-end l =
-        let e : paymentsOf (drop at d) ≡ [] = payments-end d at l in
-        record {
-          sums = λ x i. sym (+ℤ-idr (sumAt s x)) ∙ ap (λ (z : ℤ). sumAt s x +ℤ z) (sym (tally-none (ofHousehold x))) ∙ rw e at (g .sums x i)
-              ∙ ap (λ (z : ℤ). sumAt s₀ x +ℤ z) (sym (total-alone d x));
-          marks = λ x i. sym (or-false (markAt b x)) ∙ rw (e, readable-none) at (g .marks x i) ∙ rw (payments-alone d);
-        }
+        let e : paymentsOf (drop at d) ≡ [] = payments-end d at l in (
+          record {
+            sums = λ x i. sym (+ℤ-idr (sumAt s x)) ∙ ap (λ (z : ℤ). sumAt s x +ℤ z) (sym (tally-none (ofHousehold x))) ∙ rw e at (g .sums x i)
+                ∙ ap (λ (z : ℤ). sumAt s₀ x +ℤ z) (sym (total-alone d x));
+            marks = λ x i. sym (or-false (markAt b x)) ∙ rw (e, readable-none) at (g .marks x i) ∙ rw (payments-alone d);
+          },
+          g .behind,
+        )
 
 -- ---- node after node
 

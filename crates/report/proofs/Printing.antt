@@ -34,7 +34,7 @@ use Rattle.reach.proofs.Reaching.{reached-by}
 use Rattle.snapshot.specs.declared.load.Loaded.{Loaded}
 use Rattle.snapshot.specs.Answers.{LoadedFrom}
 use Rattle.report.specs.Report.{decimal, signed, heading, allName, line, refusedLine, upTo, report, printed, reportBytes, PrintedTo}
-use Rattle.report.specs.Steps.{Put, sumAt, markAt, paidIn, Totals, linesTo, lines}
+use Rattle.report.specs.Steps.{Put, sumAt, markAt, paidIn, Behind, Totals, Filled, linesTo, lines}
 use Rattle.report.proofs.Digits.{decimal-short, signed-short}
 use Rattle.report.proofs.Lines.{lines-same, lines-short, payers-few}
 use Rattle.report.proofs.Puts.{put-then, first-fits, second-fits}
@@ -143,10 +143,22 @@ unfolding printed
 printed-none bytes e = by-option (load 0 bytes) (λ q. rw q) (λ b q. no-way true refl (rw q at e))
 
 module _ (bytes m : List ℕ) (f : Loaded) (m′ : List ℕ) (l : LoadedFrom 0 bytes m f m′) where
-  pub refused-to : f .ok ≡ false → (room room′ : List ℕ) → reportBytes ≤ length room → room′ ≡ written room 0 refusedLine → PrintedTo bytes room room′ 8
-  refused-to n room room′ h e =
-      let q : printed bytes ≡ refusedLine = printed-none bytes (sym (l .judged) ∙ n) in
-      printed-to bytes room room′ 8 (rw q (record { there = e; next = refl })) (rw q (omega arith))
+  pub refused-to : f .ok ≡ false → (room room′ : List ℕ) → reportBytes ≤ length room → room′ ≡ written room 0 refusedLine → (s : List ℤ) (b : List Bool)
+      → PrintedTo bytes room room′ 8 × Filled bytes m s b m′ s b
+  refused-to n room room′ h e s b =
+      let no : isSome (load 0 bytes) ≡ false = sym (l .judged) ∙ n in
+      let q : printed bytes ≡ refusedLine = printed-none bytes no in (
+        printed-to bytes room room′ 8 (rw q (record { there = e; next = refl })) (rw q (omega arith)),
+        record {
+          refused = λ o. (l .refused n, (refl, refl));
+          totals = λ k o. no-way true refl (rw o at no);
+          sums = refl;
+          marks = refl;
+          lays = λ k o. no-way true refl (rw o at no);
+          beyond = l .beyond;
+          size = l .size;
+        },
+      )
 
   module _ (ok : f .ok ≡ true) where
     fits-all : SnapshotFits 0 (record { own = f .own; entries = view (f .table) m′ })
@@ -166,8 +178,27 @@ module _ (bytes m : List ℕ) (f : Loaded) (m′ : List ℕ) (l : LoadedFrom 0 b
       unfolding printed
       loaded-printed = rw (l .loads ok, reached-by (f .own) 0 (view (f .table) m′) (r .marks) (a .marks))
 
-      pub loaded-to : (room room′ : List ℕ) (n : ℕ) → reportBytes ≤ length room → Put (report (statements (keepBy (r .marks) (view (f .table) m′)))) room 0 room′ n → PrintedTo bytes room room′ n
-      loaded-to room room′ n h p =
-          printed-to bytes room room′ n (rw loaded-printed p)
-          (rw loaded-printed
-          (omega (arith, report-short (keepBy (r .marks) (view (f .table) m′)) (marked-good (f .table) m′ (l .kept ok) loaded-good (r .marks)) (marked-few (f .table) m′ (l .kept ok) loaded-good (r .marks)))))
+      loaded-filled : (s : List ℤ) (b : List Bool) (s′ : List ℤ) (b′ : List Bool) → Totals (statements (keepBy (r .marks) (view (f .table) m′))) s′ b′ → Behind s b s′ b′
+          → Filled bytes m s b m′ s′ b′
+      loaded-filled s b s′ b′ t k =
+          record {
+            refused = λ e. no-way (f .ok) ok (rw e at (l .judged));
+            totals = λ x e. let q : x ≡ record { own = f .own; entries = view (f .table) m′ } = cc (l .loads ok) in
+                rw (q, ← reached-by (f .own) 0 (view (f .table) m′) (r .marks) (a .marks)) t;
+            sums = k .sums;
+            marks = k .marks;
+            lays = λ x e. let q : x ≡ record { own = f .own; entries = view (f .table) m′ } = cc (l .loads ok) in
+                (f .table, (l .kept ok, rw q (refl, l .lays ok)));
+            beyond = l .beyond;
+            size = l .size;
+          }
+
+      pub loaded-to : (room room′ : List ℕ) (n : ℕ) → reportBytes ≤ length room → (s : List ℤ) (b : List Bool) (s′ : List ℤ) (b′ : List Bool)
+          → Put (report (statements (keepBy (r .marks) (view (f .table) m′)))) room 0 room′ n × (Totals (statements (keepBy (r .marks) (view (f .table) m′))) s′ b′ × Behind s b s′ b′)
+          → PrintedTo bytes room room′ n × Filled bytes m s b m′ s′ b′
+      loaded-to room room′ n h s b s′ b′ p = (
+        printed-to bytes room room′ n (rw loaded-printed (p .0))
+            (rw loaded-printed
+            (omega (arith, report-short (keepBy (r .marks) (view (f .table) m′)) (marked-good (f .table) m′ (l .kept ok) loaded-good (r .marks)) (marked-few (f .table) m′ (l .kept ok) loaded-good (r .marks))))),
+        loaded-filled s b s′ b′ (p .1 .0) (p .1 .1),
+      )

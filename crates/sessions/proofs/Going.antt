@@ -10,6 +10,7 @@ use borrow.Author.Tests.{eqb-true}
 use Rattle.base.specs.Lists.{All}
 use Rattle.base.proofs.Tests.{by-test}
 use Rattle.wire.specs.Payment.{Payment}
+use Rattle.model.specs.Table.{Entry}
 use Rattle.model.specs.Figures.{tableBytes}
 use Rattle.model.specs.Refusals.{Row, late, smallTable, noHousehold, paidAlready, full, long, noRow}
 use Rattle.model.specs.State.{State as ModelState}
@@ -84,7 +85,7 @@ module _ {s : State} {m m′ : List ℕ} where
             (k .0, k .1 .0);
       }
 
-  pub answers-goes : {q q′ : List ℕ} {d : ModelAnswer} {r : Answer} → Answers d s m q r m′ q′ → (d .number ≡ 0 → tableBytes ≤ length m) → Goes s m (r .state) m′
+  pub answers-goes : {q q′ : List ℕ} {d : ModelAnswer} {es : List Entry} {r : Answer} → Answers d es s m q r m′ q′ → (d .number ≡ 0 → tableBytes ≤ length m) → Goes s m (r .state) m′
   answers-goes h f =
       record {
         left = h .left;

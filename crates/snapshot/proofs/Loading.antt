@@ -16,8 +16,9 @@ use Rattle.model.specs.Table.{Entry, entryOf, idOf, look, put}
 use Rattle.model.specs.Snapshot.{consTo, loadEntries, holdsOwn, load}
 use Rattle.model.proofs.Snapshots.{last-end, last-more, onto, onto-start, onto-next, onto-end}
 use Rattle.table.specs.declared.Table.{Table}
-use Rattle.table.specs.View.{metaAt, view, Kept, Gap, Stored}
+use Rattle.table.specs.View.{metaAt, view, Kept, Lays, Gap, Stored}
 use Rattle.table.proofs.Tables.{view-length, view-each, all-stored}
+use Rattle.table.proofs.Laying.{stays-self, kept-wrote, lays-then, stored-one}
 use Rattle.snapshot.specs.declared.read.EntryRead.{EntryRead}
 use Rattle.snapshot.specs.declared.read.EntryRead.the-variants.{Whole, NoEntry}
 use Rattle.snapshot.specs.declared.read.HeadRead.{HeadRead}
@@ -138,6 +139,7 @@ pub record Filling (clock : ℕ) (s : List ℕ) (at count : ℕ) (m₀ : List �
   pub same : onto (view t m) (loadEntries clock (count - k) low (drop place s)) ≡ loadEntries clock count 0 (drop at s)
   pub size : length m ≡ length m₀
   pub beyond : drop tableBytes m ≡ drop tableBytes m₀
+  pub lays : Lays m₀ (view t m) t m
 
 pub filling-start : (clock : ℕ) (s : List ℕ) (at count : ℕ) (m : List ℕ) (t : Table) → at ≤ length s → Kept t m × (view t m ≡ []) → Filling clock s at count m t m at 0 0
 filling-start clock s at count m t p h =
@@ -150,6 +152,7 @@ filling-start clock s at count m t p h =
       same = rw (h .1, e) (onto-start (loadEntries clock count 0 (drop at s)));
       size = refl;
       beyond = refl;
+      lays = kept-wrote t t m (stays-self t) (h .0) .lays;
     }
 
 module _ (clock : ℕ) (s : List ℕ) (at count : ℕ) (m₀ : List ℕ) (t : Table) (m : List ℕ) (place low k : ℕ) (f : Filling clock s at count m₀ t m place low k) where
@@ -174,6 +177,14 @@ module _ (clock : ℕ) (s : List ℕ) (at count : ℕ) (m₀ : List ℕ) (t : Ta
           let e : start + size - start ≡ size = omega arith in
           rw e at (st .viewed) ∙ insert-last idOf (entryOf node seq (take size (drop start s)) age clock) (view t m) (under-node node (omega arith))
 
+      laid-on : Lays m₀ (view r m′) r m′
+      laid-on =
+          let e : Entry = entryOf node seq (take (start + size - start) (drop start s)) age clock in
+          let n : start + size - start ≡ size = omega arith in
+          subst (λ (es : List Entry). Lays m₀ es r m′)
+          (ap (λ (i : ℕ). view t m ++ (entryOf node seq (take i (drop start s)) age clock ∷ [])) n ∙ sym grown)
+          (lays-then t r m₀ (view t m) m (e ∷ []) m′ (f .lays) (stored-one e t r m m′ k (f .kept) st))
+
       pub filling-next : Filling clock s at count m₀ r m′ (start + size) (node + 1) (k + 1)
       filling-next =
           record {
@@ -190,6 +201,7 @@ module _ (clock : ℕ) (s : List ℕ) (at count : ℕ) (m₀ : List ℕ) (t : Ta
                 ∙ ap (onto (view t m)) (sym (left-on s place low clock count k p node seq age start size x)) ∙ f .same);
             size = l ∙ f .size;
             beyond = st .beyond ∙ f .beyond;
+            lays = laid-on;
           }
 
   -- what was judged whole does not stop on the way, and ends with the last entry
@@ -201,8 +213,8 @@ module _ (clock : ℕ) (s : List ℕ) (at count : ℕ) (m₀ : List ℕ) (t : Ta
     never-stops p x = never (left-stops s place low clock count k p x)
 
     pub filled : count ≤ k
-        → Kept t m × ((loadEntries clock count 0 (drop at s) ≡ some (view t m)) × ((length m ≡ length m₀) × (drop tableBytes m ≡ drop tableBytes m₀)))
-    filled p = (f .kept, (by-order place (length s) (λ q. never (left-more s place low clock count k p q)) (λ q. ends (omega arith)) (λ q. ends (omega arith)), (f .size, f .beyond)))
+        → Kept t m × ((loadEntries clock count 0 (drop at s) ≡ some (view t m)) × ((length m ≡ length m₀) × ((drop tableBytes m ≡ drop tableBytes m₀) × Lays m₀ (view t m) t m)))
+    filled p = (f .kept, (by-order place (length s) (λ q. never (left-more s place low clock count k p q)) (λ q. ends (omega arith)) (λ q. ends (omega arith)), (f .size, (f .beyond, f .lays))))
       where
         ends : length s ≤ place → loadEntries clock count 0 (drop at s) ≡ some (view t m)
         ends q = sym (f .same) ∙ ap (onto (view t m)) (left-end s place low clock count k p q) ∙ onto-end (view t m)
@@ -218,7 +230,7 @@ module _ (s : List ℕ) (r : HeadRead) (h : ReadHead s r) where
 
 pub refused : (clock : ℕ) (s m : List ℕ) (own : ℕ) (t : Table) → load clock s ≡ none → LoadedFrom clock s m (record { ok = false; own = own; table = t }) m
 refused clock s m own t e =
-    record { judged = sym (ap isSome e); refused = λ q. refl; kept = λ q. no-way false q refl; loads = λ q. no-way false q refl; size = refl; beyond = refl }
+    record { judged = sym (ap isSome e); refused = λ q. refl; kept = λ q. no-way false q refl; loads = λ q. no-way false q refl; lays = λ q. no-way false q refl; size = refl; beyond = refl }
 
 some-not : {X : Type 0} (o : Option X) → isSome o ≡ false → o ≡ none
 some-not none e = refl
@@ -242,11 +254,11 @@ module _ (clock : ℕ) (s : List ℕ) (own count next : ℕ) (h : Heads s own co
     judged-yes = some-before (loadEntries clock count 0 (drop next s)) (holdsOwn own) (sym (j clock) ∙ e)
 
     module _ (m : List ℕ) (t : Table) (m′ : List ℕ)
-        (f : Kept t m′ × ((loadEntries clock count 0 (drop next s) ≡ some (view t m′)) × ((length m′ ≡ length m) × (drop tableBytes m′ ≡ drop tableBytes m)))) where
+        (f : Kept t m′ × ((loadEntries clock count 0 (drop next s) ≡ some (view t m′)) × ((length m′ ≡ length m) × ((drop tableBytes m′ ≡ drop tableBytes m) × Lays m (view t m′) t m′)))) where
       loads : load clock s ≡ some (record { own = own; entries = view t m′ })
       loads =
           let q : orElse (loadEntries clock count 0 (drop next s)) none (holdsOwn own) ≡ holdsOwn own (view t m′) = rw (f .1 .0) in
           h .loads clock ∙ q ∙ some-chosen (isSome (look own (view t m′))) (record { own = own; entries = view t m′ }) (ap isSome (sym q) ∙ sym (j clock) ∙ e)
 
       pub loaded : LoadedFrom clock s m (record { ok = true; own = own; table = t }) m′
-      loaded = record { judged = sym (ap isSome loads); refused = λ q. no-way true refl q; kept = λ q. f .0; loads = λ q. loads; size = f .1 .1 .0; beyond = f .1 .1 .1 }
+      loaded = record { judged = sym (ap isSome loads); refused = λ q. no-way true refl q; kept = λ q. f .0; loads = λ q. loads; lays = λ q. f .1 .1 .1 .1; size = f .1 .1 .0; beyond = f .1 .1 .1 .0 }

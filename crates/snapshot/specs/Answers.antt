@@ -12,7 +12,7 @@ use Rattle.wire.specs.Order.{good}
 use Rattle.model.specs.Figures.{mostNodes, dataLimit, tableBytes, mostAge}
 use Rattle.model.specs.Table.{entryOf}
 use Rattle.model.specs.Snapshot.{consTo, loadEntries, holdsOwn, load}
-use Rattle.table.specs.View.{view, Kept}
+use Rattle.table.specs.View.{view, Kept, Lays}
 use Rattle.snapshot.specs.declared.read.EntryRead.{EntryRead}
 use Rattle.snapshot.specs.declared.read.EntryRead.the-variants.{Whole, NoEntry}
 use Rattle.snapshot.specs.declared.read.HeadRead.{HeadRead}
@@ -58,5 +58,6 @@ pub record LoadedFrom (clock : ℕ) (s m : List ℕ) (r : Loaded) (m′ : List �
   pub refused : r .ok ≡ false → m′ ≡ m
   pub kept : r .ok ≡ true → Kept (r .table) m′
   pub loads : r .ok ≡ true → load clock s ≡ some (record { own = r .own; entries = view (r .table) m′ })
+  pub lays : r .ok ≡ true → Lays m (view (r .table) m′) (r .table) m′
   pub size : length m′ ≡ length m
   pub beyond : drop tableBytes m′ ≡ drop tableBytes m

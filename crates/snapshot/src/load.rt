@@ -13,7 +13,7 @@ ghost use lib.ListN.{length, drop};
 ghost use Rattle.base.specs.Lists.{orElse, isSome};
 ghost use Rattle.model.specs.Figures.{mostNodes, tableBytes};
 ghost use Rattle.model.specs.Snapshot.{loadEntries, holdsOwn};
-ghost use Rattle.table.specs.View.{view, Kept};
+ghost use Rattle.table.specs.View.{view, Kept, Lays};
 ghost use Rattle.snapshot.specs.Answers.{LoadedFrom};
 
 // What was loaded, if `ok` is set: our identifier and the table.
@@ -60,7 +60,7 @@ fn is_whole(s: &[u8], at: usize, count: usize, own: u32) -> bool
 // The entries into table and table memory.
 fn fill(s: &[u8], at: usize, count: usize, mem: &mut [u8], clock: u64) -> Table
     requires { ⌜ (at ≤ length (now s)) × ((count ≤ mostNodes) × ((tableBytes ≤ length (now mem)) × (isSome (loadEntries clock count 0 (drop at (now s))) ≡ true))) ⌝ }
-    ensures { λ r. ⌜ Kept r (now (mem .exit)) × ((loadEntries clock count 0 (drop at (now (s .entry))) ≡ some (view r (now (mem .exit)))) × ((length (now (mem .exit)) ≡ length (now (mem .entry))) × (drop tableBytes (now (mem .exit)) ≡ drop tableBytes (now (mem .entry))))) ⌝ }
+    ensures { λ r. ⌜ Kept r (now (mem .exit)) × ((loadEntries clock count 0 (drop at (now (s .entry))) ≡ some (view r (now (mem .exit)))) × ((length (now (mem .exit)) ≡ length (now (mem .entry))) × ((drop tableBytes (now (mem .exit)) ≡ drop tableBytes (now (mem .entry))) × Lays (now (mem .entry)) (view r (now (mem .exit))) r (now (mem .exit))))) ⌝ }
 {
     let mut t = table::empty();
     let mut place = at;

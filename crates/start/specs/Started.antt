@@ -1,7 +1,7 @@
 -- What beginning and resuming answer, step by step. Assumes nothing.
 use mathlib.Core.Path.{_≡_}
 use mathlib.Core.Bool.{false}
-use mathlib.Core.List.{List, []}
+use mathlib.Core.List.{List, [], _++_}
 use mathlib.Core.Option.{some}
 use Prim.Native.Nat.{ℕ}
 use lib.ListN.{replicate}
@@ -13,6 +13,7 @@ use Rattle.model.specs.Digest.{networkDigest}
 use Rattle.model.specs.State.{State as ModelState, Endpoint as ModelEndpoint, ownData, publish}
 use Rattle.model.specs.Begin.{freshEndpoints}
 use Rattle.model.specs.Snapshot.{Snapshot, load, withoutLinks, resumed}
+use Rattle.table.specs.View.{Lays}
 use Rattle.node.specs.View.{Moved}
 use Rattle.node.specs.declared.State.{State}
 use Rattle.start.specs.declared.resume.Resumed.{Resumed}
@@ -41,3 +42,5 @@ pub record ResumedFrom (clock : ℕ) (bytes randoms : List ℕ) (s : State) (m :
   pub state : r .ok ≡ false → r .state ≡ s
   pub memory : r .ok ≡ false → m′ ≡ m
   pub resumes : (b : Snapshot) → load clock bytes ≡ some b → Moved (resumed clock randoms b) m (r .state) m′
+  -- the entries of the snapshot are laid in the memory, then the table that they become
+  pub lays : (b : Snapshot) → load clock bytes ≡ some b → Lays m (b .entries ++ resumed clock randoms b .table) (r .state .table) m′

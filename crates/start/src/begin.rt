@@ -57,7 +57,7 @@ fn no_peers() -> Peers
 
 // Our node with a table, its network digest not worked out yet.
 pub fn undigested(own: u32, clock: u64, randoms: [u32; 4], t: Table) -> State
-    ensures { λ r. ⌜ ((m : List ℕ) → Kept t m → Rep r m × (stateOf r m ≡ undigested own clock randoms (view t m))) ⌝ }
+    ensures { λ r. ⌜ ((m : List ℕ) → Kept t m → Rep r m × (stateOf r m ≡ undigested own clock randoms (view t m))) × (r .table ≡ t) ⌝ }
 {
     State {
         own,
@@ -72,7 +72,7 @@ pub fn undigested(own: u32, clock: u64, randoms: [u32; 4], t: Table) -> State
 // The state with the network digest at the reading.
 pub fn with_digest(s: State, mem: &[u8], clock: u64) -> State
     requires { ⌜ Rep s (now mem) × (Readable clock (s .table) (now mem) × Held s (now mem)) ⌝ }
-    ensures { λ r. ⌜ Moved (digested clock (stateOf s (now (mem .entry)))) (now (mem .entry)) r (now (mem .entry)) ⌝ }
+    ensures { λ r. ⌜ Moved (digested clock (stateOf s (now (mem .entry)))) (now (mem .entry)) r (now (mem .entry)) × (r .table ≡ s .table) ⌝ }
 {
     let found = reach(s.table, mem, s.own, clock);
     let digest = found.digest;

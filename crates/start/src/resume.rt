@@ -15,7 +15,7 @@ ghost use lib.ListN.{length};
 ghost use Rattle.wire.specs.Order.{good};
 ghost use Rattle.model.specs.Figures.{tableBytes, dataLimit, lastReading};
 ghost use Rattle.model.specs.State.{ownData};
-ghost use Rattle.node.specs.View.{stateOf, Rep, Held, Moved};
+ghost use Rattle.node.specs.View.{stateOf, Rep, Held, Published};
 ghost use Rattle.start.specs.Started.{unlinked, ResumedFrom};
 
 // What resuming answers: whether the snapshot was taken, and the state, else as it was.
@@ -27,7 +27,7 @@ pub struct Resumed {
 // Our data published once more, without the Peer TLVs.
 fn republish(s: State, mem: &mut [u8], clock: u64) -> State
     requires { ⌜ Rep s (now mem) × (Held s (now mem) × (good dataLimit (ownData (stateOf s (now mem))) ≡ true)) ⌝ }
-    ensures { λ r. ⌜ Moved (unlinked clock (stateOf s (now (mem .entry)))) (now (mem .entry)) r (now (mem .exit)) ⌝ }
+    ensures { λ r. ⌜ Published (unlinked clock (stateOf s (now (mem .entry)))) s (now (mem .entry)) r (now (mem .exit)) ⌝ }
 {
     let links = links_in(own_data(s, mem));
     let seq = advanced(own_seq(s, mem), 1);

@@ -1,2 +1,3 @@
 -- The laws of the table.
 pub mod Tables
+pub mod Laying

@@ -8,20 +8,22 @@ use native.Mathlib.Nat.{not-suc-le-zero, le-of-suc-le-suc}
 use native.Mathlib.Omega.{arith}
 use lib.ListN.{length, getD, take, drop, set, length-take, length-drop, length-append, length-set, length-map, drop-of-length-le, List·getD-map, List·getD-append}
 use native.Mathlib.Numerals.{add-one}
+use lib.Dec.{eqb}
+use borrow.Author.Tests.{eqb-true, eqb-false}
 use lib.Seq.{take-suc-set, take-set-le, getD-take, drop-cons, append-snoc, getD-at, getD-set-same, take-set-lt, take-at, length-take-le}
 use mathlib.Core.Logic.{inl, inr}
 use Rattle.base.specs.Lists.{keep, keepBy, In, All}
 use Rattle.base.specs.Memory.{part, written, spliced, cut}
 use Rattle.base.specs.Sorted.{find, insert, Above, Ascending}
-use Rattle.base.proofs.Tests.{by-order}
-use Rattle.base.proofs.Lists.{all-keep-by}
-use Rattle.base.proofs.Sorted.{above-less, insert-lt, insert-eq, insert-gt, insert-ascending, find-no, all-insert}
+use Rattle.base.proofs.Tests.{by-test, by-order}
+use Rattle.base.proofs.Lists.{all-keep-by, in-keep-by}
+use Rattle.base.proofs.Sorted.{above-less, insert-lt, insert-eq, insert-gt, insert-ascending, find-no, find-none, find-some, by-find, one-each, find-map, find-inserted, find-other, all-insert}
 use Rattle.base.proofs.Places.{find-at, insert-over, insert-between, all-at, getD-any, pigeons}
 use Rattle.base.proofs.Written.{part-length, part-there, spliced-length, cut-length, other-slot, written-outside, same-outside, written-above, written-there, written-length}
 use Rattle.sha256.specs.Sha256.{hash16}
 use Rattle.model.specs.Figures.{mostNodes, dataLimit, tableBytes}
 use Rattle.model.specs.Table.{Entry, entryOf, idOf, put, look}
-use Rattle.table.specs.View.{blank, metaId, live, metaAt, dataOf, seen, view, OnlySlot, Free, Apart, FitMeta, Fit, Hashed, Arranged, Kept, Stands, Gap, Finding, Read, Stored, withEntries, withMeta, inserted, Renumbered, SlotUsed, Purged}
+use Rattle.table.specs.View.{blank, metaId, live, metaAt, dataOf, seen, view, OnlySlot, Free, Apart, FitMeta, Fit, Hashed, Arranged, Kept, metaOf, SlotsStay, Stands, Gap, Finding, Read, Stored, withEntries, withMeta, inserted, Renumbered, SlotUsed, Purged}
 use Rattle.table.specs.declared.Table.{Table}
 use Rattle.table.specs.declared.Found.{Found}
 use Rattle.table.specs.declared.Found.the-variants.{At, Missing}
@@ -137,6 +139,36 @@ live-length t k = simp length-take (omega arith)
 live-at : (t : Table) (i : ℕ) → i < t .count → getD (live t) i blank ≡ metaAt t i
 live-at t i p = getD-take (t .count) (t .entries) i blank p
 
+-- what is known of a node that is held
+pub meta-found : (t : Table) → Arranged t → (x : Meta) → In x (live t) → metaOf t (x .id) ≡ some x
+meta-found t k x m =
+    by-find metaId (x .id) (live t) (λ h. absurd (find-none metaId (x .id) x (live t) h m refl))
+    (λ y h. let r = find-some metaId (x .id) y (live t) h in h ∙ ap some (one-each metaId y x (live t) (k .ascending) (r .0) m (r .1)))
+
+pub stands-found : (t : Table) (id i : ℕ) → Arranged t → Stands t id i → metaOf t id ≡ some (metaAt t i)
+stands-found t id i k s =
+    find-at metaId blank id (live t) i (k .ascending) (rw (live-length t k) (s .at)) (ap metaId (live-at t i (s .at)) ∙ s .named) ∙ ap some (live-at t i (s .at))
+
+above-none : (n : ℕ) (l : List Meta) → Above metaId n l → find metaId n l ≡ none
+unfolding find
+above-none n [] h = refl
+above-none n (x ∷ l) h = find-no metaId n x l (omega arith) ∙ above-none n l (h .1)
+
+gap-none : (n : ℕ) (l : List Meta) (i : ℕ) → Ascending metaId l → ((j : ℕ) → j < i → j < length l → getD l j blank .id < n) → (i < length l → n < getD l i blank .id) → find metaId n l ≡ none
+unfolding find
+gap-none n [] i a f g = refl
+gap-none n (x ∷ l) zero a f g =
+    let p : n < x .id = g (suc-le-suc zero-le) in
+    find-no metaId n x l (omega arith) ∙ above-none n l (above-less metaId l (omega arith) (a .0))
+gap-none n (x ∷ l) (suc i) a f g =
+    let p : x .id < n = f 0 (suc-le-suc zero-le) (suc-le-suc zero-le) in
+    find-no metaId n x l (omega arith) ∙ gap-none n l i (a .1) (λ j q r. f (suc j) (suc-le-suc q) (suc-le-suc r)) (λ q. g (suc-le-suc q))
+
+gap-found : (t : Table) (id i : ℕ) → Arranged t → Gap t id i → metaOf t id ≡ none
+gap-found t id i k g =
+    gap-none id (live t) i (k .ascending) (λ j p q. rw (live-at t j (rw (live-length t k) at q)) (g .below j p))
+    (λ p. rw (live-at t i (rw (live-length t k) at p)) (g .above (rw (live-length t k) at p)))
+
 pub live-over : (t : Table) (i : ℕ) (e : Meta) → Arranged t → Stands t (e .id) i → live (withMeta t i e) ≡ insert metaId e (live t)
 live-over t i e k s =
     take-set-lt (t .count) (t .entries) i e (s .at)
@@ -179,9 +211,17 @@ module _ (t r : Table) (e : Meta) (k : Arranged t) (most : r .count ≤ mostNode
   pub hashes-put : (m m′ : List ℕ) → OnlySlot (e .slot) m m′ → e .hash ≡ hash16 (dataOf m′ e) → Hashed m (live t) → Hashed m′ (live r)
   hashes-put m m′ o h g = rw q (hashed-put m m′ e (live t) o (k .ascending) (k .fit) c h g)
 
+-- the others keep their slots, and its own node the one that it had
+slots-put : (t r : Table) (e : Meta) → live r ≡ insert metaId e (live t) → ((x : Meta) → metaOf t (e .id) ≡ some x → e .slot ≡ x .slot) → SlotsStay t r
+slots-put t r e q u n x h =
+    by-test (eqb (e .id) n)
+    (λ b. let p : e .id ≡ n = eqb-true (e .id) n b in (e, rw (← p, q) (find-inserted metaId e (live t)), u x (rw p h)))
+    (λ b. (x, rw q (find-other metaId n e (live t) (eqb-false (e .id) n b)) ∙ h, refl))
+
 -- written into its slot
 module _ (t r : Table) (m : List ℕ) (e : Meta) (d : List ℕ) (i : ℕ) (k : Kept t m) (most : r .count ≤ mostNodes) (wide : length (r .entries) ≡ mostNodes)
-    (q : live r ≡ insert metaId e (live t)) (f : FitMeta e) (c : Clear e (live t)) (n : e .len ≡ length d) (h : e .hash ≡ hash16 d) (b : i < r .count) (s : metaAt r i ≡ e) where
+    (q : live r ≡ insert metaId e (live t)) (f : FitMeta e) (c : Clear e (live t)) (n : e .len ≡ length d) (h : e .hash ≡ hash16 d) (b : i < r .count) (s : metaAt r i ≡ e)
+    (u : (x : Meta) → metaOf t (e .id) ≡ some x → e .slot ≡ x .slot) where
   there : dataOf (written m (e .slot * dataLimit) d) e ≡ d
   there = rw n (written-there m d (e .slot * dataLimit) (omega (arith, f .0, f .1, k .room)))
 
@@ -198,8 +238,13 @@ module _ (t r : Table) (m : List ℕ) (e : Meta) (d : List ℕ) (i : ℕ) (k : K
         viewed = view-put t r e (k .arranged) most wide q f c m (written m (e .slot * dataLimit) d) o ∙ ap (λ (z : List ℕ). put (entryOf (e .id) (e .seq) z (e .age) (e .since)) (view t m)) there;
         stands = record { at = b; named = ap metaId s };
         memory = ap (λ (z : Meta). written m (z .slot * dataLimit) d) (sym s);
+        slots = slots-put t r e q u;
         beyond = written-above m d (e .slot * dataLimit) (omega (arith, f .0, f .1, k .room)) tableBytes (omega (arith, f .0, f .1));
       }
+
+-- what is known of the node of the entry at place i has that entry's slot
+slot-had : (t : Table) (e : Meta) (i : ℕ) → Arranged t → Stands t (e .id) i → e .slot ≡ metaAt t i .slot → (x : Meta) → metaOf t (e .id) ≡ some x → e .slot ≡ x .slot
+slot-had t e i k s q x h = let z : metaAt t i ≡ x = cc (stands-found t (e .id) i k s) in q ∙ ap (λ (y : Meta). y .slot) z
 
 -- over the entry of its node
 pub stored-over : (t : Table) (m : List ℕ) (e : Meta) (d : List ℕ) (i : ℕ) → Kept t m → Stands t (e .id) i → e .slot ≡ metaAt t i .slot → e .len ≡ length d → length d ≤ dataLimit → e .hash ≡ hash16 d
@@ -210,13 +255,14 @@ stored-over t m e d i k s q n l h =
     let f : FitMeta (metaAt t i) = rw (live-at t i (s .at)) at (all-at FitMeta blank (live t) i (k .arranged .fit) b) in
     stored t (withMeta t i e) m e d i k (k .arranged .most) (length-set (t .entries) i e ∙ k .arranged .wide) (live-over t i e (k .arranged) s) (omega (arith, f .0), omega arith)
     (stands-clear e (live t) i (k .arranged .apart) b (ap metaId (live-at t i (s .at)) ∙ s .named) (ap (λ (x : Meta). x .slot) (live-at t i (s .at)) ∙ sym q)) n h
-    (s .at) (getD-set-same (t .entries) i e blank w)
+    (s .at) (getD-set-same (t .entries) i e blank w) (slot-had t e i (k .arranged) s q)
 
 -- a new one, in a free slot
 pub stored-new : (t : Table) (m : List ℕ) (e : Meta) (d : List ℕ) (i : ℕ) → Kept t m → t .count < 32 → Gap t (e .id) i → e .slot < 32 → Free (e .slot) (live t) → e .len ≡ length d → length d ≤ dataLimit → e .hash ≡ hash16 d
     → Stored (entryOf (e .id) (e .seq) d (e .age) (e .since)) t m i (inserted t i e) (written m (e .slot * dataLimit) d)
 stored-new t m e d i k p g s free n l h =
     stored t (inserted t i e) m e d i k (omega arith) long (live-new t i e (k .arranged) p g) (s, omega arith) (free-clear e (e .slot) (live t) refl free) n h (omega (arith, g .at)) there
+    (λ x q. let z : _≡_ {A = ℕ} 0 1 = cc (gap-found t (e .id) i (k .arranged) g) in omega arith)
   where
     long : length (inserted t i e .entries) ≡ 32
     long = let w : length (t .entries) ≡ 32 = k .arranged .wide in let b : i ≤ t .count = g .at in simp (length-append, length-take, length-drop) (omega arith)
@@ -243,6 +289,7 @@ renumbered t e i k s q n h =
       viewed = λ m.
           view-put t (withMeta t i e) e k (k .most) wide (live-over t i e k s) f c m m (same-outside m (e .slot * dataLimit) dataLimit)
           ∙ ap (λ (z : List ℕ). put (entryOf (e .id) (e .seq) z (e .age) (e .since)) (view t m)) (same m);
+      slots = slots-put t (withMeta t i e) e (live-over t i e k s) (slot-had t e i k s q);
     }
   where
     b : i < length (live t)
@@ -285,29 +332,39 @@ module _ (t r : Table) (m m′ d : List ℕ) (i id seq age since len slot : ℕ)
   added p g s f e = rw (w, e) (stored-new t m (record { id = id; seq = seq; age = age; since = since; len = len; slot = slot; hash = hash }) d i k p g s f n l h)
 
 -- data changed in place, and the digest taken from there
-module _ (t r : Table) (m m′ : List ℕ) (i id seq since p len : ℕ) (hash : List ℕ) (old : Meta) (k : Kept t m) (s : Stands t id i) (o : Read t i old)
-    (h : hash ≡ hash16 (take (old .slot * dataLimit + len - old .slot * dataLimit) (drop (old .slot * dataLimit) m′)))
-    (e : r ≡ withMeta t i (record { id = id; seq = seq; age = 0; since = since; len = len; slot = old .slot; hash = hash })) where
-  edited : (d : List ℕ) → length d ≡ len → len ≤ dataLimit → m′ ≡ written m (old .slot * dataLimit) d → Stored (entryOf id seq d 0 since) t m i r m′
-  edited d n l w =
-      replaced t r m m′ d i id seq 0 since len (old .slot) hash k (omega arith) (sym n)
-      (h ∙ ap hash16 (part-there m m′ d (old .slot * dataLimit) (old .slot * dataLimit + len - old .slot * dataLimit) w (omega arith) (omega (arith, o .low, k .room)))) w old o refl s e
+pub edited : (t r : Table) (m m′ : List ℕ) (i id seq since len : ℕ) (hash : List ℕ) (old : Meta) → Kept t m → Stands t id i → Read t i old
+    → hash ≡ hash16 (take (old .slot * dataLimit + len - old .slot * dataLimit) (drop (old .slot * dataLimit) m′))
+    → r ≡ withMeta t i (record { id = id; seq = seq; age = 0; since = since; len = len; slot = old .slot; hash = hash })
+    → (d : List ℕ) → length d ≡ len → len ≤ dataLimit → m′ ≡ written m (metaAt t i .slot * dataLimit) d → Stored (entryOf id seq d 0 since) t m i r m′
+edited t r m m′ i id seq since len hash old k s o h e d n l w =
+    let v : m′ ≡ written m (old .slot * dataLimit) d = w ∙ ap (λ (x : Meta). written m (x .slot * dataLimit) d) (sym (o .same)) in
+    replaced t r m m′ d i id seq 0 since len (old .slot) hash k (omega arith) (sym n)
+    (h ∙ ap hash16 (part-there m m′ d (old .slot * dataLimit) (old .slot * dataLimit + len - old .slot * dataLimit) v (omega arith) (omega (arith, o .low, k .room)))) v old o refl s e
 
-  pub spliced-in : (b : List ℕ) → p ≤ metaAt t i .len → metaAt t i .len + length b ≤ dataLimit → len ≡ old .len + length b
-      → m′ ≡ written m (old .slot * dataLimit) (spliced (part m (old .slot * dataLimit) (old .len)) p b)
-      → Stored (entryOf id seq (spliced (dataOf m (metaAt t i)) p b) 0 since) t m i r m′
-  spliced-in b p′ q l w =
-      let z : length (spliced (part m (old .slot * dataLimit) (old .len)) p b) ≡ old .len + length b = spliced-length m (old .slot * dataLimit) (old .len) p (omega (arith, o .low, o .short, k .room)) b (omega (arith, o .long)) in
-      subst (λ (x : Meta). Stored (entryOf id seq (spliced (dataOf m x) p b) 0 since) t m i r m′) (o .same)
-      (edited (spliced (part m (old .slot * dataLimit) (old .len)) p b) (z ∙ sym l) (omega (arith, o .long)) w)
+-- bytes put in, or taken out: what is published then
+module _ (t r : Table) (m m′ : List ℕ) (i id seq since p : ℕ) (old : Meta) (k : Kept t m) (o : Read t i old) where
+  abbrev Publishes : ℕ → Type 0
+  Publishes len = (x d : List ℕ) → Kept t x → length d ≡ len → m′ ≡ written x (metaAt t i .slot * dataLimit) d → Stored (entryOf id seq d 0 since) t x i r m′
 
-  pub cut-out : (n : ℕ) → p + n ≤ metaAt t i .len → len ≡ old .len - n
-      → m′ ≡ written m (old .slot * dataLimit) (cut (part m (old .slot * dataLimit) (old .len)) p n)
-      → Stored (entryOf id seq (cut (dataOf m (metaAt t i)) p n) 0 since) t m i r m′
-  cut-out n q l w =
-      let z : length (cut (part m (old .slot * dataLimit) (old .len)) p n) ≡ old .len - n = cut-length m (old .slot * dataLimit) (old .len) p (omega (arith, o .low, o .short, k .room)) n (omega (arith, o .long)) in
-      subst (λ (x : Meta). Stored (entryOf id seq (cut (dataOf m x) p n) 0 since) t m i r m′) (o .same)
-      (edited (cut (part m (old .slot * dataLimit) (old .len)) p n) (z ∙ sym l) (omega (arith, o .short)) w)
+  -- in the terms of the entry that was read
+  in-place : (f : List ℕ → List ℕ) (len : ℕ) → length (f (part m (old .slot * dataLimit) (old .len))) ≡ len
+      → m′ ≡ written m (old .slot * dataLimit) (f (part m (old .slot * dataLimit) (old .len))) → Publishes len
+      → Stored (entryOf id seq (f (dataOf m (metaAt t i))) 0 since) t m i r m′
+  in-place f len n w e =
+      subst (λ (x : Meta). Stored (entryOf id seq (f (dataOf m x)) 0 since) t m i r m′) (o .same)
+      (e m (f (part m (old .slot * dataLimit) (old .len))) k n (w ∙ ap (λ (x : Meta). written m (x .slot * dataLimit) (f (part m (old .slot * dataLimit) (old .len)))) (o .same)))
+
+  pub spliced-in : (b : List ℕ) → p ≤ metaAt t i .len → m′ ≡ written m (old .slot * dataLimit) (spliced (part m (old .slot * dataLimit) (old .len)) p b)
+      → Publishes (old .len + length b) → Stored (entryOf id seq (spliced (dataOf m (metaAt t i)) p b) 0 since) t m i r m′
+  spliced-in b q w =
+      in-place (λ (d : List ℕ). spliced d p b) (old .len + length b)
+      (spliced-length m (old .slot * dataLimit) (old .len) p (omega (arith, o .low, o .short, k .room)) b (omega (arith, o .long))) w
+
+  pub cut-out : (n : ℕ) → p + n ≤ metaAt t i .len → m′ ≡ written m (old .slot * dataLimit) (cut (part m (old .slot * dataLimit) (old .len)) p n)
+      → Publishes (old .len - n) → Stored (entryOf id seq (cut (dataOf m (metaAt t i)) p n) 0 since) t m i r m′
+  cut-out n q w =
+      in-place (λ (d : List ℕ). cut d p n) (old .len - n)
+      (cut-length m (old .slot * dataLimit) (old .len) p (omega (arith, o .low, o .short, k .room)) n (omega (arith, o .long))) w
 
 pub renumbered-by : (t r : Table) (i id seq age since : ℕ) (old : Meta) → Arranged t → Stands t id i → Read t i old
     → r ≡ withMeta t i (record { id = id; seq = seq; age = age; since = since; len = old .len; slot = old .slot; hash = old .hash }) → Renumbered id seq age since t i r
@@ -392,7 +449,13 @@ seen-keep m (false ∷ bs) (e ∷ l) = seen-keep m bs l
 
 pub purged : (bs : List Bool) (t r : Table) → Arranged t → r .count ≤ 32 → length (r .entries) ≡ 32 → live r ≡ keepBy bs (live t) → Purged bs t r
 unfolding view
-purged bs t r k most wide q = record { arranged = arranged; kept = λ m g. record { arranged = arranged; room = g .room; hashed = rw q (all-keep-by (λ (e : Meta). e .hash ≡ hash16 (dataOf m e)) bs (live t) (g .hashed)) }; viewed = viewed }
+purged bs t r k most wide q =
+    record {
+      slots = λ n x h. let w = find-some metaId n x (live r) h in (x, ap (metaOf t) (sym (w .1)) ∙ meta-found t k x (in-keep-by bs (live t) x (rw (← q) (w .0))), refl);
+      arranged = arranged;
+      kept = λ m g. record { arranged = arranged; room = g .room; hashed = rw q (all-keep-by (λ (e : Meta). e .hash ≡ hash16 (dataOf m e)) bs (live t) (g .hashed)) };
+      viewed = viewed;
+    }
   where
     arranged : Arranged r
     arranged =
@@ -444,27 +507,10 @@ keep-on bs t ns i j k p w q r e h =
 
 -- ---- found, in the model
 
-above-none : (n : ℕ) (l : List Entry) → Above idOf n l → find idOf n l ≡ none
-unfolding find
-above-none n [] h = refl
-above-none n (x ∷ l) h = find-no idOf n x l (omega arith) ∙ above-none n l (h .1)
-
-gap-none : (n : ℕ) (l : List Meta) (i : ℕ) (m : List ℕ) → Ascending metaId l → ((j : ℕ) → j < i → j < length l → getD l j blank .id < n) → (i < length l → n < getD l i blank .id) → find idOf n (map (seen m) l) ≡ none
-unfolding find
-gap-none n [] i m a f g = refl
-gap-none n (x ∷ l) zero m a f g =
-    let p : n < x .id = g (suc-le-suc zero-le) in
-    find-no idOf n (seen m x) (map (seen m) l) (omega arith) ∙ above-none n (map (seen m) l) (above-seen m n l (above-less metaId l (omega arith) (a .0)))
-gap-none n (x ∷ l) (suc i) m a f g =
-    let p : x .id < n = f 0 (suc-le-suc zero-le) (suc-le-suc zero-le) in
-    find-no idOf n (seen m x) (map (seen m) l) (omega arith) ∙ gap-none n l i m (a .1) (λ j q r. f (suc j) (suc-le-suc q) (suc-le-suc r)) (λ q. g (suc-le-suc q))
-
 module _ (t : Table) (k : Arranged t) where
   pub look-gap : (id i : ℕ) (m : List ℕ) → Gap t id i → look id (view t m) ≡ none
   unfolding look view
-  look-gap id i m g =
-      gap-none id (live t) i m (k .ascending) (λ j p q. rw (live-at t j (rw (live-length t k) at q)) (g .below j p))
-      (λ p. rw (live-at t i (rw (live-length t k) at p)) (g .above (rw (live-length t k) at p)))
+  look-gap id i m g = find-map (seen m) idOf id (live t) ∙ rw (gap-found t id i k g)
 
   pub look-stands : (id i : ℕ) (m : List ℕ) → Stands t id i → look id (view t m) ≡ some (seen m (metaAt t i))
   unfolding look view

@@ -3,10 +3,11 @@ use Prim.Native.Nat.{ℕ, _+_, _*_, _≤_, _<_}
 use mathlib.Core.Path.{_≡_}
 use mathlib.Core.Bool.{Bool, true, false}
 use mathlib.Core.List.{List, [], _∷_, _++_, map}
+use mathlib.Core.Option.{Option, some}
 use lib.ListN.{length, getD, take, drop, set}
-use Rattle.base.specs.Lists.{All, keepBy}
+use Rattle.base.specs.Lists.{orElse, isSome, All, keepBy}
 use Rattle.base.specs.Memory.{written, Outside}
-use Rattle.base.specs.Sorted.{Ascending}
+use Rattle.base.specs.Sorted.{find, Ascending}
 use Rattle.wire.specs.Order.{good}
 use Rattle.sha256.specs.Sha256.{hash16}
 use Rattle.model.specs.Figures.{mostNodes, dataLimit, tableBytes}
@@ -106,6 +107,35 @@ abbrev pub Finding : Table → ℕ → Found → Type 0
 Finding t id (At i) = Stands t id i
 Finding t id (Missing i) = Gap t id i
 
+-- ---- the memory, byte by byte
+
+-- what is known of the node n, if it is held
+abbrev pub metaOf : Table → ℕ → Option Meta
+metaOf t n = find metaId n (live t)
+
+-- the memory m after the data of these entries were written to it, one after the other, each to the start of its node's slot in t
+unfoldable pub laid : Table → List Entry → List ℕ → List ℕ
+laid t [] m = m
+laid t (e ∷ es) m = laid t es (orElse (metaOf t (idOf e)) m (λ x. written m (x .slot * dataLimit) (e .says .nodeData)))
+
+-- every node that t holds stands in r too, in the same slot
+abbrev pub SlotsStay : Table → Table → Type 0
+SlotsStay t r = (n : ℕ) (x : Meta) → metaOf t n ≡ some x → (y : Meta) × (metaOf r n ≡ some y) × (y .slot ≡ x .slot)
+
+-- the entry's node is held, and its data fit a slot
+abbrev pub Housed : Table → Entry → Type 0
+Housed t e = (isSome (metaOf t (idOf e)) ≡ true) × (length (e .says .nodeData) ≤ dataLimit)
+
+-- the data of the entries es, which are all housed in the table r, were written, and no other byte
+pub record Lays (m : List ℕ) (es : List Entry) (r : Table) (m′ : List ℕ) : Type 0 where
+  pub housed : All (Housed r) es
+  pub memory : m′ ≡ laid r es m
+
+-- the same from the table t to the table r
+pub record Wrote (t : Table) (m : List ℕ) (es : List Entry) (r : Table) (m′ : List ℕ) : Type 0 where
+  pub slots : SlotsStay t r
+  pub lays : Lays m es r m′
+
 -- ---- changed
 
 -- the entry e is put in: it stands at place i, its data in the slot of that place, and every other byte stays
@@ -114,6 +144,7 @@ pub record Stored (e : Entry) (t : Table) (m : List ℕ) (i : ℕ) (r : Table) (
   pub viewed : view r m′ ≡ put e (view t m)
   pub stands : Stands r (idOf e) i
   pub memory : m′ ≡ written m (metaAt r i .slot * dataLimit) (e .says .nodeData)
+  pub slots : SlotsStay t r
   pub beyond : drop tableBytes m′ ≡ drop tableBytes m
 
 abbrev pub withEntries : Table → List Meta → Table
@@ -131,6 +162,7 @@ pub record Renumbered (id seq age since : ℕ) (t : Table) (i : ℕ) (r : Table)
   pub arranged : Arranged r
   pub kept : (m : List ℕ) → Kept t m → Kept r m
   pub viewed : (m : List ℕ) → view r m ≡ put (entryOf id seq (dataOf m (metaAt t i)) age since) (view t m)
+  pub slots : SlotsStay t r
 
 -- an entry has slot s, or none has
 abbrev pub SlotUsed : Table → ℕ → Bool → Type 0
@@ -141,3 +173,4 @@ pub record Purged (marks : List Bool) (t r : Table) : Type 0 where
   pub arranged : Arranged r
   pub kept : (m : List ℕ) → Kept t m → Kept r m
   pub viewed : (m : List ℕ) → view r m ≡ keepBy marks (view t m)
+  pub slots : SlotsStay r t

@@ -8,7 +8,7 @@ ghost use mathlib.Core.Bool.{cond};
 ghost use mathlib.Core.List.{List, _∷_, []};
 ghost use Prim.Native.Nat.{ℕ, _+_, _-_, _*_, _≤_, _<_};
 ghost use lib.ListN.{length};
-ghost use Rattle.base.specs.Memory.{spliced, cut};
+ghost use Rattle.base.specs.Memory.{written, spliced, cut};
 ghost use Rattle.model.specs.Figures.{dataLimit, tableBytes, mostAge, lastReading};
 ghost use Rattle.model.specs.Table.{entryOf};
 ghost use Rattle.sha256.specs.Sha256.{hash16};
@@ -284,26 +284,22 @@ pub fn purge(t: Table, marks: [bool; 32]) -> Table
 
 // ---- own data in place
 
-// The node at place i publishes its data with the bytes put in at place p.
-pub fn insert_tlv(
+// The node at place i publishes the first `len` bytes of its slot, which were changed there before.
+pub fn publish_slot(
     t: Table,
-    mem: &mut [u8],
+    mem: &[u8],
     i: usize,
     id: u32,
     seq: u32,
     clock: u64,
-    p: usize,
-    bytes: &[u8],
+    len: usize,
 ) -> Table
-    requires { ⌜ Kept t (now mem) × (Stands t id i × ((p ≤ metaAt t i .len) × (metaAt t i .len + length (now bytes) ≤ dataLimit))) ⌝ }
-    ensures { λ r. ⌜ Stored (entryOf id seq (spliced (dataOf (now (mem .entry)) (metaAt t i)) p (now (bytes .entry))) 0 clock) t (now (mem .entry)) i r (now (mem .exit)) ⌝ }
+    requires { ⌜ Arranged t × (Stands t id i × ((len ≤ dataLimit) × (tableBytes ≤ length (now mem)))) ⌝ }
+    ensures { λ r. ⌜ ((m d : List ℕ) → Kept t m → length d ≡ len → now (mem .entry) ≡ written m (metaAt t i .slot * dataLimit) d → Stored (entryOf id seq d 0 clock) t m i r (now (mem .entry))) ⌝ }
 {
     let old = meta_at(t, i);
     let slot = old.slot;
     let at = slot * SLOT;
-    let had = old.len;
-    insert_bytes(mem, at, had, p, bytes);
-    let len = had + bytes.len();
     let end = at + len;
     let hash = hash16(&mem[at..end]);
     with_meta(
@@ -321,6 +317,25 @@ pub fn insert_tlv(
     )
 }
 
+// The node at place i publishes its data with the bytes put in at place p.
+pub fn insert_tlv(
+    t: Table,
+    mem: &mut [u8],
+    i: usize,
+    id: u32,
+    seq: u32,
+    clock: u64,
+    p: usize,
+    bytes: &[u8],
+) -> Table
+    requires { ⌜ Kept t (now mem) × (Stands t id i × ((p ≤ metaAt t i .len) × (metaAt t i .len + length (now bytes) ≤ dataLimit))) ⌝ }
+    ensures { λ r. ⌜ Stored (entryOf id seq (spliced (dataOf (now (mem .entry)) (metaAt t i)) p (now (bytes .entry))) 0 clock) t (now (mem .entry)) i r (now (mem .exit)) ⌝ }
+{
+    let old = meta_at(t, i);
+    insert_bytes(mem, old.slot * SLOT, old.len, p, bytes);
+    publish_slot(t, mem, i, id, seq, clock, old.len + bytes.len())
+}
+
 // The node at place i publishes its data without the n bytes from place p.
 pub fn remove_tlv(
     t: Table,
@@ -336,26 +351,8 @@ pub fn remove_tlv(
     ensures { λ r. ⌜ Stored (entryOf id seq (cut (dataOf (now (mem .entry)) (metaAt t i)) p n) 0 clock) t (now (mem .entry)) i r (now (mem .exit)) ⌝ }
 {
     let old = meta_at(t, i);
-    let slot = old.slot;
-    let at = slot * SLOT;
-    let had = old.len;
-    remove_bytes(mem, at, had, p, n);
-    let len = had - n;
-    let end = at + len;
-    let hash = hash16(&mem[at..end]);
-    with_meta(
-        t,
-        i,
-        Entry {
-            id,
-            seq,
-            age: 0,
-            since: clock,
-            len,
-            slot,
-            hash,
-        },
-    )
+    remove_bytes(mem, old.slot * SLOT, old.len, p, n);
+    publish_slot(t, mem, i, id, seq, clock, old.len - n)
 }
 
 // No node at all.

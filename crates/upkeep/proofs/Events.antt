@@ -21,14 +21,15 @@ use Rattle.model.proofs.KeptTick.{silent-kept}
 use Rattle.trickle.specs.View.{trickleOf, eventOf, Small}
 use Rattle.trickle.specs.declared.Event.{Event}
 use Rattle.trickle.proofs.Laws.{fits-small}
-use Rattle.table.specs.View.{view}
+use Rattle.table.specs.View.{view, Wrote}
+use Rattle.table.specs.declared.Table.{Table}
 use Rattle.reach.specs.Marks.{Readable}
 use Rattle.reach.proofs.Nodes.{fits-readable}
-use Rattle.node.specs.View.{endpointOf, stateOf, Rep, Held, Moved, Settled}
+use Rattle.node.specs.View.{endpointOf, stateOf, Rep, Held, Published, Settled}
 use Rattle.node.specs.declared.State.{State}
 use Rattle.node.specs.declared.Endpoint.{Endpoint}
 use Rattle.node.proofs.Parts.{state-own, state-digest}
-use Rattle.node.proofs.Moves.{moved-then}
+use Rattle.node.proofs.Moves.{published-then}
 use Rattle.node.proofs.Settling.{settled-moved}
 use Rattle.upkeep.specs.Ticked.{Cleared, TickedFrom}
 use Rattle.upkeep.proofs.Leaving.{held-midway}
@@ -50,19 +51,19 @@ module _ (own endpoint : ℕ) (digest : List ℕ) (h : length digest ≡ 16) whe
 
 -- ---- silent peers gone, the digest compared
 
-module _ (clock i : ℕ) (s : ModelState) (mid : Midway clock s) (m : List ℕ) (a : State) (m′ : List ℕ) (o : Moved (dropSilent clock i s) m a m′) where
+module _ (clock i : ℕ) (s : State) (m : List ℕ) (mid : Midway clock (stateOf s m)) (a : State) (m′ : List ℕ) (o : Published (dropSilent clock i (stateOf s m)) s m a m′) where
   dropped-midway : Midway clock (stateOf a m′)
-  dropped-midway = subst (Midway clock) (sym (o .is)) (silent-kept clock i s mid)
+  dropped-midway = subst (Midway clock) (sym (o .moved .is)) (silent-kept clock i (stateOf s m) mid)
 
   pub dropped-readable : clock ≤ lastReading → Readable clock (a .table) m′ × Held a m′
   unfolding stateOf
-  dropped-readable l = (fits-readable (a .own) clock (a .table) m′ (o .rep .table) (dropped-midway .table) l, held-midway clock a m′ dropped-midway)
+  dropped-readable l = (fits-readable (a .own) clock (a .table) m′ (o .moved .rep .table) (dropped-midway .table) l, held-midway clock a m′ dropped-midway)
 
   pub dropped-cleared : (rs d : List ℕ) (r : State) → d ≡ networkDigest (a .own) clock (view (a .table) m′) → Settled clock rs d a r → Cleared clock i rs s m r m′
   dropped-cleared rs d r e h =
       record {
-        moved = moved-then o (settle clock rs) (settled-moved clock rs d a r m′ h (o .rep) e);
-        midway = settle-midway clock rs (dropSilent clock i s) (silent-kept clock i s mid);
+        published = published-then (settle clock rs) o (h .table) (settled-moved clock rs d a r m′ h (o .moved .rep) e);
+        midway = settle-midway clock rs (dropSilent clock i (stateOf s m)) (silent-kept clock i (stateOf s m) mid);
       }
 
 -- ---- the event
@@ -70,20 +71,20 @@ module _ (clock i : ℕ) (s : ModelState) (mid : Midway clock s) (m : List ℕ) 
 abbrev sent : ModelState → List ℕ → Sent
 sent s d = record { number = 0; state = s; bytes = d }
 
-module _ (clock i : ℕ) (rs : List ℕ) (s : State) (m : List ℕ) (b : State) (m′ : List ℕ) (o : Cleared clock i rs (stateOf s m) m b m′)
+module _ (clock i : ℕ) (rs : List ℕ) (s : State) (m : List ℕ) (b : State) (m′ : List ℕ) (o : Cleared clock i rs s m b m′)
     (e : Endpoint) (q : endpointOf e ≡ endpointAt i (stateOf b m′)) where
   abbrev after : ModelState
   after = settle clock rs (dropSilent clock i (stateOf s m))
 
   endpoint-is : endpointOf e ≡ endpointAt i after
-  endpoint-is = q ∙ ap (endpointAt i) (o .moved .is)
+  endpoint-is = q ∙ ap (endpointAt i) (o .published .moved .is)
 
   pub trickle-small : 1 ≤ i → i ≤ 4 → clock ≤ lastReading → Small (e .trickle)
   trickle-small low high l =
       fits-small clock (e .trickle) l (subst (EndpointFits clock) (sym endpoint-is) (endpoint-fits i low high after (o .midway)) .trickle)
 
   module _ (v : Event) (k : ℕ) (n : pred i ≡ k) (w : eventOf v ≡ event clock (getD rs k 0) (trickleOf (e .trickle)))
-      (r : State) (f : Rep r m′) (u : stateOf r m′ ≡ withEndpoint i (endpointOf (record { trickle = v .next; next = e .next })) (stateOf b m′)) where
+      (r : State) (f : Rep r m′) (u : stateOf r m′ ≡ withEndpoint i (endpointOf (record { trickle = v .next; next = e .next })) (stateOf b m′)) (t : r .table ≡ b .table) where
     event-is : event clock (getD rs (pred i) 0) (endpointAt i after .trickle) ≡ eventOf v
     event-is =
         ap (λ (j : ℕ). event clock (getD rs j 0) (endpointAt i after .trickle)) n
@@ -93,7 +94,7 @@ module _ (clock i : ℕ) (rs : List ℕ) (s : State) (m : List ℕ) (b : State) 
     state-is : stateOf r m′ ≡ withEndpoint i (withTrickle (trickleOf (v .next)) (endpointAt i after)) after
     state-is =
         u
-        ∙ ap (withEndpoint i (withTrickle (trickleOf (v .next)) (endpointOf e))) (o .moved .is)
+        ∙ ap (withEndpoint i (withTrickle (trickleOf (v .next)) (endpointOf e))) (o .published .moved .is)
         ∙ ap (λ (x : ModelEndpoint). withEndpoint i (withTrickle (trickleOf (v .next)) x) after) endpoint-is
 
     -- what is sent names the state after the event
@@ -110,16 +111,20 @@ module _ (clock i : ℕ) (rs : List ℕ) (s : State) (m : List ℕ) (b : State) 
         ∙ ap (withEvent i after) (sym event-is)
         ∙ sym (ticked-is clock i (stateOf s m) rs)
 
+    wrote : Wrote (s .table) m (view (r .table) m′) (r .table) m′
+    wrote = subst (λ (x : Table). Wrote (s .table) m (view x m′) x m′) (sym t) (o .published .wrote)
+
     module _ (room : List ℕ) where
       -- nothing is sent
       pub quiet-tick : v .sends ≡ false → TickedFrom s m room clock i rs (record { state = r; length = 0 }) m′ room
       quiet-tick h =
           record {
             rep = f;
+            wrote = wrote;
             is = answer-is [] (rw h);
             used = omega arith;
-            size = o .moved .size;
-            beyond = o .moved .beyond;
+            size = o .published .moved .size;
+            beyond = o .published .moved .beyond;
             room = refl;
             rest = refl;
           }
@@ -131,10 +136,11 @@ module _ (clock i : ℕ) (rs : List ℕ) (s : State) (m : List ℕ) (b : State) 
           let z : length (endpointTlv (r .own) i ++ networkTlv (r .digest)) ≡ 32 = announced-length (r .own) i (r .digest) (f .digest) in
           record {
             rep = f;
+            wrote = wrote;
             is = answer-is (take 32 room′) (part-there room room′ d 0 32 p (sym z) (omega arith) ∙ announced-is ∙ rw h);
             used = omega arith;
-            size = o .moved .size;
-            beyond = o .moved .beyond;
+            size = o .published .moved .size;
+            beyond = o .published .moved .beyond;
             room = ap length p ∙ written-length room d 0 (omega arith);
             rest = ap (drop 32) p ∙ written-above room d 0 (omega arith) 32 (omega arith);
           }

@@ -70,8 +70,8 @@ module _ (s : List ℕ) (endpoint at : ℕ) where
 
 module _ (t : Table) (m : List ℕ) (k : Kept t m) (i : ℕ) where
   -- the data of a node that stands in the table are a row
-  pub stands-meta : (id : ℕ) → AllGood (view t m) → Stands t id i → isRow (dataOf m (metaAt t i)) ≡ true
-  stands-meta id g s =
+  pub stands-row : (id : ℕ) → AllGood (view t m) → Stands t id i → isRow (dataOf m (metaAt t i)) ≡ true
+  stands-row id g s =
       good-row dataLimit (dataOf m (metaAt t i)) (view-each t (k .arranged) (λ e. good dataLimit (e .says .nodeData) ≡ true) m i g (s .at))
 
   module _ (p : ModelPeer) where

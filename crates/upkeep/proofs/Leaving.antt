@@ -1,12 +1,10 @@
 -- The peers that go and those that stay, by their marks; our own age. Assumes nothing.
 use mathlib.Core.Path.{_≡_, refl, sym, ap, _∙_, subst}
 use mathlib.Core.Bool.{Bool, true, false, not}
-use mathlib.Core.List.{List, [], _∷_, _++_, map}
+use mathlib.Core.List.{List, [], _∷_, map}
 use Prim.Native.Nat.{ℕ, _+_, _-_, _≤_, _<_}
 use native.Mathlib.Omega.{arith}
-use native.Mathlib.Numerals.{add-one}
-use lib.ListN.{length, getD, take, set, replicate, length-set}
-use lib.Seq.{take-suc-set}
+use lib.ListN.{length, getD, set, replicate, length-set}
 use Rattle.base.specs.Lists.{any, keep, keepBy}
 use Rattle.base.proofs.Tests.{by-test}
 use Rattle.base.proofs.Lists.{all-more}
@@ -21,22 +19,14 @@ use Rattle.model.proofs.Cases.{gone, stay}
 use Rattle.model.proofs.KeptParts.{midway-own}
 use Rattle.table.specs.View.{seen, view, Read, Stands, AllGood}
 use Rattle.table.specs.declared.Entry.{Entry as Meta}
-use Rattle.base.proofs.Marks.{not-at, none-set, keep-by-nil, keep-by-in, keep-by-out, keep-by-map, keep-by-places, any-places, Filled, fill-start, fill-set}
+use Rattle.base.proofs.Marks.{not-at, none-set, keep-by-places, any-places, Filled, fill-start, fill-set}
 use Rattle.node.specs.View.{peerOf, peersOf, stateOf, PeersRep, Rep, Held}
 use Rattle.node.specs.declared.State.{State}
 use Rattle.node.specs.declared.peers.Peer.{Peer}
-use Rattle.node.specs.declared.peers.Peers.{Peers}
-use Rattle.node.proofs.Contacts.{peers-length, peers-at}
+use Rattle.node.proofs.Contacts.{noPeer, peer-at, peers-length}
 use Rattle.node.proofs.Parts.{state-held}
 use Rattle.node.proofs.Own.{own-entry}
 use Rattle.upkeep.specs.Ticked.{Lent, Scanned, Going}
-
-abbrev pub noPeer : ModelPeer
-noPeer = record { node = 0; theirs = 0; ours = 0; contact = 0 }
-
--- the peer that the code reads at a place
-pub peer-at : (p : Peers) (i : ℕ) (d : Peer) → PeersRep p → i < p .count → peerOf (getD (p .list) i d) ≡ getD (peersOf p) i noPeer
-peer-at p i d k h = sym (peers-at p i d h) ∙ getD-any (peersOf p) i (peerOf d) noPeer (rw (peers-length p k) h)
 
 -- ---- what the code asks, from the invariant
 
@@ -136,27 +126,3 @@ module _ (clock endpoint : ℕ) (s : ModelState) (marks : List Bool) (g : Going 
   some-by =
       any-places noPeer (goes clock endpoint (s .table)) marks (s .peers) (λ i h. g .each i h noPeer) (g .none)
       ∙ some-keep (goes clock endpoint (s .table)) (s .peers)
-
--- ---- those that stay, moved together: the first j of r are those that stay of the first i of l
-
-abbrev pub Stayed : List Bool → List Peer → ℕ → List Peer → ℕ → Type 0
-Stayed marks l i r j = take j r ≡ keepBy (map not marks) (take i l)
-
-pub stayed-none : (marks : List Bool) (l r : List Peer) → Stayed marks l 0 r 0
-stayed-none marks l r = sym (keep-by-nil (map not marks))
-
-module _ (marks : List Bool) (l : List Peer) (i : ℕ) (r : List Peer) (j : ℕ) (h : i < length marks) (k : i < length l) (q : Stayed marks l i r j) where
-  pub stayed-not : getD marks i false ≡ true → Stayed marks l (i + 1) r j
-  stayed-not e = q ∙ sym (keep-by-out (record { node = 0; theirs = 0; ours = 0; contact = 0 }) (map not marks) l i k (not-at marks i h ∙ ap not e))
-
-  pub stayed-one : (d : Peer) → getD marks i false ≡ false → j < length r → Stayed marks l (i + 1) (set r j (getD l i d)) (j + 1)
-  stayed-one d e n =
-      rw (add-one j, take-suc-set r j (getD l i d) n)
-      (ap (λ (x : List Peer). x ++ (getD l i d ∷ [])) q ∙ sym (keep-by-in d (map not marks) l i k (not-at marks i h ∙ ap not e)))
-
-pub stayed-all : (marks : List Bool) (p : Peers) (i : ℕ) (r : List Peer) (j : ℕ) → p .count ≡ i → Stayed marks (p .list) i r j
-    → peersOf (record { count = j; list = r }) ≡ keepBy (map not marks) (peersOf p)
-unfolding peersOf
-stayed-all marks p i r j e q =
-    let w : take j r ≡ keepBy (map not marks) (take (p .count) (p .list)) = rw e q in
-    ap (map peerOf) w ∙ sym (keep-by-map peerOf (map not marks) (take (p .count) (p .list)))

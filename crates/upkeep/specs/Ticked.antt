@@ -4,19 +4,16 @@ use mathlib.Core.Bool.{Bool, false}
 use mathlib.Core.List.{List}
 use Prim.Native.Nat.{ℕ, _≤_, _<_}
 use lib.ListN.{length, getD, take, drop}
-use Rattle.base.specs.Lists.{joinAll}
-use Rattle.wire.specs.Row.{tlvs}
-use Rattle.wire.specs.Order.{without}
 use Rattle.model.specs.Figures.{mostBytes, mostPeers, tableBytes}
 use Rattle.model.specs.Table.{Entry}
-use Rattle.model.specs.State.{State as ModelState, Peer as ModelPeer, ownData, publishAs, peerTlv, settle}
+use Rattle.model.specs.State.{State as ModelState, Peer as ModelPeer, settle}
 use Rattle.model.specs.Tick.{goes, dropSilent, ticked}
 use Rattle.model.specs.Invariant.{Midway}
-use Rattle.table.specs.View.{view, Kept, AllGood}
+use Rattle.table.specs.View.{view, Kept, AllGood, Wrote}
 use Rattle.table.specs.declared.Table.{Table}
 use Rattle.node.specs.declared.State.{State}
 use Rattle.node.specs.declared.peers.Peer.{Peer}
-use Rattle.node.specs.View.{peerOf, stateOf, Rep, Moved}
+use Rattle.node.specs.View.{peerOf, stateOf, Rep, Published}
 use Rattle.upkeep.specs.declared.tick.Ticked.{Ticked}
 
 -- what the scan asks of the peers that are lent to it, of the table and of its memory: the first `count` stand there and were heard by now
@@ -39,19 +36,16 @@ pub record Going (clock endpoint : ℕ) (s : ModelState) (marks : List Bool) : T
   pub each : (i : ℕ) → i < length (s .peers) → (p : ModelPeer) → getD marks i false ≡ goes clock endpoint (s .table) (getD (s .peers) i p)
   pub none : (i : ℕ) → length (s .peers) ≤ i → getD marks i false ≡ false
 
--- our data without the peer's Peer TLV, which may have stood there
-pub record WithoutLink (clock seq : ℕ) (p : ModelPeer) (s : ModelState) (m : List ℕ) (r : State) (m′ : List ℕ) : Type 0 where
-  pub moved : Moved (publishAs clock seq (joinAll (without (peerTlv p) (tlvs (ownData s)))) s) m r m′
-
 -- silent peers gone and the digest compared: what the event then finds
-pub record Cleared (clock endpoint : ℕ) (randoms : List ℕ) (s : ModelState) (m : List ℕ) (r : State) (m′ : List ℕ) : Type 0 where
-  pub moved : Moved (settle clock randoms (dropSilent clock endpoint s)) m r m′
-  pub midway : Midway clock (settle clock randoms (dropSilent clock endpoint s))
+pub record Cleared (clock endpoint : ℕ) (randoms : List ℕ) (s : State) (m : List ℕ) (r : State) (m′ : List ℕ) : Type 0 where
+  pub published : Published (settle clock randoms (dropSilent clock endpoint (stateOf s m))) s m r m′
+  pub midway : Midway clock (settle clock randoms (dropSilent clock endpoint (stateOf s m)))
 
 -- the model's answer, and every byte that is not the answer's as it was
 pub record TickedFrom (s : State) (m r : List ℕ) (clock endpoint : ℕ) (randoms : List ℕ) (o : Ticked) (m′ r′ : List ℕ) : Type 0 where
   pub rep : Rep (o .state) m′
   pub is : record { number = 0; state = stateOf (o .state) m′; bytes = take (o .length) r′ } ≡ ticked clock endpoint randoms (stateOf s m)
+  pub wrote : Wrote (s .table) m (view (o .state .table) m′) (o .state .table) m′
   pub used : o .length ≤ mostBytes
   pub size : length m′ ≡ length m
   pub beyond : drop tableBytes m′ ≡ drop tableBytes m

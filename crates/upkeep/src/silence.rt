@@ -1,43 +1,33 @@
 // Peers that have been silent too long, and our own age.
 use base::big_endian::read_u32;
-use message::peer_tlv;
 use node::State;
+use node::leaving::drop_peers;
 use node::peers::Peer;
-use node::peers::Peers;
-use node::publish::advanced;
-use node::publish::own_data;
 use node::publish::own_place;
-use node::publish::own_seq;
-use node::publish::publish_as;
-use node::publish::publish_cut;
 use table::Found;
 use table::Table;
 use table::age_at;
 use table::data_of;
 use table::find;
 use table::meta_at;
-use wire::order::Standing;
-use wire::order::find_tlv;
 use wire::row::Header;
 use wire::row::tlv_at;
 ghost use mathlib.Core.Path.{_≡_};
-ghost use mathlib.Core.Bool.{true, not, _||_};
-ghost use mathlib.Core.List.{map};
+ghost use mathlib.Core.Bool.{true, _||_};
 ghost use Prim.Native.Nat.{_≤_, _<_};
 ghost use lib.Dec.{leb};
-ghost use Rattle.base.specs.Lists.{any, keepBy};
+ghost use Rattle.base.specs.Lists.{any};
 ghost use Rattle.wire.specs.Row.{isRow};
-ghost use Rattle.wire.specs.Order.{good};
 ghost use Rattle.wire.specs.Answers.{Tells};
-ghost use Rattle.model.specs.Figures.{dataLimit, refreshAge, lastReading};
+ghost use Rattle.model.specs.Figures.{refreshAge, lastReading};
 ghost use Rattle.model.specs.Table.{ageAt};
-ghost use Rattle.model.specs.State.{ownEntry, ownData, publishAs};
-ghost use Rattle.model.specs.Tick.{isKeepAlive, intervalIn, intervalOf, silentFor, goes, withoutPeers, dropSilent};
+ghost use Rattle.model.specs.State.{ownEntry};
+ghost use Rattle.model.specs.Tick.{isKeepAlive, intervalIn, intervalOf, silentFor, goes, dropSilent};
 ghost use Rattle.model.specs.Invariant.{Midway};
 ghost use Rattle.table.specs.View.{view, Kept, AllGood};
 ghost use Rattle.reach.specs.Marks.{tlvOf};
-ghost use Rattle.node.specs.View.{peerOf, peersOf, stateOf, PeersRep, Rep, Held, Moved};
-ghost use Rattle.upkeep.specs.Ticked.{Lent, Scanned, Going, WithoutLink};
+ghost use Rattle.node.specs.View.{peerOf, stateOf, Rep, Published};
+ghost use Rattle.upkeep.specs.Ticked.{Lent, Scanned, Going};
 
 // The TLV is a Keep-Alive TLV for the endpoint.
 fn is_keep_alive(nd: &[u8], at: usize, h: Header, endpoint: u32) -> bool
@@ -153,62 +143,6 @@ fn is_some(marks: [bool; 16]) -> bool
     false
 }
 
-// Our data without the peer's Peer TLV, under the number `seq`.
-fn without_link(s: State, mem: &mut [u8], clock: u64, seq: u32, p: Peer) -> State
-    requires { ⌜ Rep s (now mem) × (Held s (now mem) × (good dataLimit (ownData (stateOf s (now mem))) ≡ true)) ⌝ }
-    ensures { λ r. ⌜ WithoutLink clock seq (peerOf p) (stateOf s (now (mem .entry))) (now (mem .entry)) r (now (mem .exit)) ⌝ }
-{
-    let tlv = peer_tlv(p.node, p.theirs, p.ours);
-    let standing = find_tlv(own_data(s, mem), &tlv);
-    match standing {
-        Standing::At(place) => publish_cut(s, mem, clock, seq, place, 16),
-        Standing::Nowhere => publish_as(s, mem, clock, seq),
-    }
-}
-
-// Our data without the Peer TLVs of the marked peers, under the number `seq`.
-fn without_links(s: State, mem: &mut [u8], clock: u64, seq: u32, marks: [bool; 16]) -> State
-    requires { ⌜ Rep s (now mem) × (Held s (now mem) × (good dataLimit (ownData (stateOf s (now mem))) ≡ true)) ⌝ }
-    ensures { λ r. ⌜ Moved (publishAs clock seq (withoutPeers (keepBy marks (stateOf s (now (mem .entry)) .peers)) (ownData (stateOf s (now (mem .entry))))) (stateOf s (now (mem .entry)))) (now (mem .entry)) r (now (mem .exit)) ⌝ }
-{
-    let peers = s.peers;
-    let mut r = publish_as(s, mem, clock, seq);
-    let mut i = 0;
-    while i < s.peers.count {
-        let p = peers.list[i];
-        let goes = marks[i];
-        i += 1;
-        if !goes {
-            continue;
-        }
-        r = without_link(r, mem, clock, seq, p);
-    }
-    r
-}
-
-// The peers that are not marked, in their order.
-fn staying(p: Peers, marks: [bool; 16]) -> Peers
-    requires { ⌜ PeersRep p ⌝ }
-    ensures { λ r. ⌜ PeersRep r × (peersOf r ≡ keepBy (map not marks) (peersOf p)) ⌝ }
-{
-    let count = p.count;
-    let mut r = p;
-    let mut j = 0;
-    let mut i = 0;
-    while i < count {
-        let e = p.list[i];
-        let goes = marks[i];
-        i += 1;
-        if goes {
-            continue;
-        }
-        r.list[j] = e;
-        j += 1;
-    }
-    r.count = j;
-    r
-}
-
 // Our own age is at the limit at which we publish again.
 fn is_stale(s: State, mem: &[u8], clock: u64) -> bool
     requires { ⌜ Rep s (now mem) × (Midway clock (stateOf s (now mem)) × (clock ≤ lastReading)) ⌝ }
@@ -233,14 +167,11 @@ fn is_republishing(s: State, mem: &[u8], clock: u64, marks: [bool; 16]) -> bool
 // Silent peers of the endpoint go with their Peer TLVs; published once if any went, or if our age asks for it.
 pub fn drop_silent(s: State, mem: &mut [u8], clock: u64, endpoint: u32) -> State
     requires { ⌜ Rep s (now mem) × (Midway clock (stateOf s (now mem)) × (clock ≤ lastReading)) ⌝ }
-    ensures { λ r. ⌜ Moved (dropSilent clock endpoint (stateOf s (now (mem .entry)))) (now (mem .entry)) r (now (mem .exit)) ⌝ }
+    ensures { λ r. ⌜ Published (dropSilent clock endpoint (stateOf s (now (mem .entry)))) s (now (mem .entry)) r (now (mem .exit)) ⌝ }
 {
     let marks = going(s, mem, clock, endpoint);
     if !is_republishing(s, mem, clock, marks) {
         return s;
     }
-    let seq = advanced(own_seq(s, mem), 1);
-    let mut r = without_links(s, mem, clock, seq, marks);
-    r.peers = staying(s.peers, marks);
-    r
+    drop_peers(s, mem, clock, marks)
 }

@@ -39,7 +39,7 @@ fn announce(room: &mut [u8], own: u32, endpoint: u32, digest: [u8; 16])
 // Silent peers gone, and the digest compared.
 fn cleared(s: State, mem: &mut [u8], clock: u64, endpoint: u32, randoms: [u32; 4]) -> State
     requires { ⌜ Rep s (now mem) × (Midway clock (stateOf s (now mem)) × (clock ≤ lastReading)) ⌝ }
-    ensures { λ r. ⌜ Cleared clock endpoint randoms (stateOf s (now (mem .entry))) (now (mem .entry)) r (now (mem .exit)) ⌝ }
+    ensures { λ r. ⌜ Cleared clock endpoint randoms s (now (mem .entry)) r (now (mem .exit)) ⌝ }
 {
     let a = drop_silent(s, mem, clock, endpoint);
     let found = reach(a.table, mem, a.own, clock);

@@ -31,7 +31,7 @@ put-lines-requires c κs =
     let g = marked-good (a .t) (a .mem .now) (p .0) (p .1 .0) (a .marks) in
     let n = marked-few (a .t) (a .mem .now) (p .0) (p .1 .0) (a .marks) in (
       record { sums = omega (arith, p .1 .1 .0 .sums, d .kept .1 .1 .1 .0); marks = omega (arith, p .1 .1 .0 .marks, d .kept .1 .1 .1 .1 .0) },
-      lines-fit es g n (a .room .now) (p .1 .1 .1) (d .last .1 .1 .1 .0) (d .last .1 .1 .1 .1 .0) (d .ensures) (c .before .before .before .before .before .store .last .0) (c .before .before .before .before .before .store .ensures) (c .before .before .before .before .before .store .kept .0),
+      lines-fit es g n (a .room .now) (p .1 .1 .1) (d .last .1 .1 .1 .0) (d .last .1 .1 .1 .1 .0) (d .ensures .0) (c .before .before .before .before .before .store .last .0) (c .before .before .before .before .before .store .ensures) (c .before .before .before .before .before .store .kept .0),
     )
 
 slice-aggregate-put-line : tie.Need-slice-aggregate-put-line
@@ -48,7 +48,7 @@ put-line-requires c κs =
     let t = c .before .before .before .before .before .before .before .before .before .before .before .before .before .before .tally in
     let k = c .before .before .before .before .before .put-lines in
     let f : SFits w64 (t .result .value) = subst (SFits w64) (sym (t .ensures .value)) (sum-fits es g n) in
-    rw (narrow-back w64 (t .result .value) f, t .ensures .value) (all-fits es g n (a .room .now) (p .1 .1 .1) (d .last .1 .1 .1 .0) (d .last .1 .1 .1 .1 .0) (d .ensures) (c .before .before .before .before .before .before .before .before .before .before .before .store .last .0) (c .before .before .before .before .before .before .before .before .before .before .before .store .ensures) (c .before .before .before .before .before .before .before .before .before .before .before .store .kept .0) (k .last .1 .1 .0) (k .result) (k .ensures) (k .kept .1 .1 .0))
+    rw (narrow-back w64 (t .result .value) f, t .ensures .value) (all-fits es g n (a .room .now) (p .1 .1 .1) (d .last .1 .1 .1 .0) (d .last .1 .1 .1 .1 .0) (d .ensures .0) (c .before .before .before .before .before .before .before .before .before .before .before .store .last .0) (c .before .before .before .before .before .before .before .before .before .before .before .store .ensures) (c .before .before .before .before .before .before .before .before .before .before .before .store .kept .0) (k .last .1 .1 .0) (k .result) (k .ensures) (k .kept .1 .1 .0))
 
 same-length : tie.Need-same-length
 same-length c = search needs
@@ -71,7 +71,7 @@ returns c =
     let k = c .before .before .before .before .before .before .before .before .put-lines in
     let y = c .before .before .put-line in
     let f : SFits w64 (t .result .value) = subst (SFits w64) (sym (t .ensures .value)) (sum-fits es g n) in
-    report-put es g n (a .room .now) (p .1 .1 .1) (d .last .1 .1 .1 .0) (d .last .1 .1 .1 .1 .0) (d .ensures) (c .before .before .before .before .before .before .before .before .before .before .before .before .before .before .store .last .0) (c .before .before .before .before .before .before .before .before .before .before .before .before .before .before .store .ensures) (c .before .before .before .before .before .before .before .before .before .before .before .before .before .before .store .kept .0) (k .last .1 .1 .0) (k .result) (k .ensures) (y .last .0) (y .result) (rw (narrow-back w64 (t .result .value) f, t .ensures .value) at (y .ensures))
+    (report-put es g n (a .room .now) (p .1 .1 .1) (d .last .1 .1 .1 .0) (d .last .1 .1 .1 .1 .0) (d .ensures .0) (c .before .before .before .before .before .before .before .before .before .before .before .before .before .before .store .last .0) (c .before .before .before .before .before .before .before .before .before .before .before .before .before .before .store .ensures) (c .before .before .before .before .before .before .before .before .before .before .before .before .before .before .store .kept .0) (k .last .1 .1 .0) (k .result) (k .ensures) (y .last .0) (y .result) (rw (narrow-back w64 (t .result .value) f, t .ensures .value) at (y .ensures)), d .ensures)
 
 pub put-report-spec : {M : Type 1} → statement M
 put-report-spec =

@@ -24,7 +24,7 @@ returns c =
     let a = c .before .before .before .before .before .before .before .before .before .before .before .before .before .before .before .args in
     let l = c .before .before .before .before .before .before .before .before .before .load in
     let s = c .before .before .store in
-    refused-to (a .bytes .now) (a .mem .now) (l .result) (l .last .1 .0) (l .ensures) (not-true (l .result .ok) (c .before .before .before .before .before .if1 .taken)) (a .room .now) (s .last .0) (c .before .before .before .before .before .before .before .before .before .before .before .before .before .before .before .pre .1 .1 .1) (s .ensures)
+    refused-to (a .bytes .now) (a .mem .now) (l .result) (l .last .1 .0) (l .ensures) (not-true (l .result .ok) (c .before .before .before .before .before .if1 .taken)) (a .room .now) (s .last .0) (c .before .before .before .before .before .before .before .before .before .before .before .before .before .before .before .pre .1 .1 .1) (s .ensures) (a .sums .now) (a .paid .now)
 
 reach-requires : tie.Need-reach-requires
 reach-requires c κs =
@@ -61,7 +61,7 @@ returns-2 c =
     let l = c .before .before .before .before .before .before .before .before .before .before .before .before .before .before .before .before .before .load in
     let r = c .before .before .before .before .before .before .before .before .before .before .before .reach in
     let d = c .before .before .before .before .before .put-report in
-    loaded-to (a .bytes .now) (a .mem .now) (l .result) (l .last .1 .0) (l .ensures) (not-false (l .result .ok) (c .before .before .before .before .before .before .before .before .before .before .before .before .before .if1 .left)) (r .result) (r .ensures) (a .room .now) (d .last .1 .1 .1 .1 .1 .0) (d .result) (c .before .before .before .before .before .before .before .before .before .before .before .before .before .before .before .before .before .before .before .before .before .before .before .pre .1 .1 .1) (d .ensures)
+    loaded-to (a .bytes .now) (a .mem .now) (l .result) (l .last .1 .0) (l .ensures) (not-false (l .result .ok) (c .before .before .before .before .before .before .before .before .before .before .before .before .before .if1 .left)) (r .result) (r .ensures) (a .room .now) (d .last .1 .1 .1 .1 .1 .0) (d .result) (c .before .before .before .before .before .before .before .before .before .before .before .before .before .before .before .before .before .before .before .before .before .before .before .pre .1 .1 .1) (a .sums .now) (a .paid .now) (d .last .1 .1 .1 .0) (d .last .1 .1 .1 .1 .0) (d .ensures)
 
 pub report-spec : {M : Type 1} → statement M
 report-spec =

@@ -40,7 +40,7 @@ array-share-prefix-room c = search needs
 slice-aggregate-write-all : tie.Need-slice-aggregate-write-all
 slice-aggregate-write-all c =
     let r = c .before .before .before .before .before .report in
-    sym (length-take-le (r .result) (r .last .1 .1 .1 .1 .0) (r .ensures .within))
+    sym (length-take-le (r .result) (r .last .1 .1 .1 .1 .0) (r .ensures .0 .within))
 
 write-all-requires : tie.Need-write-all-requires
 write-all-requires c κs = search needs

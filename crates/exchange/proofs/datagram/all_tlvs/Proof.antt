@@ -73,16 +73,16 @@ loop-again-2 c =
     (bytes-known (a .datagram .now) (λ i. c .before .before .before .before .before .before .before .before .before .before .before .before .before .before .shared-slice-known .given i .fits)) (p .1 .1 .1 .1) (p .1 .0) (p .1 .1 .0) (c .before .before .before .before .one-tlv .result) _ _ s
 
 same-length : tie.Need-same-length Inv-loop μ-loop
-same-length c = c .before .loop .inv .stepped .size
+same-length c = c .before .loop .inv .size
 
 same-length-2 : tie.Need-same-length-2 Inv-loop μ-loop
-same-length-2 c = c .before .loop .inv .stepped .room
+same-length-2 c = c .before .loop .inv .room
 
 returns : tie.Need-returns Inv-loop μ-loop
 returns c =
     let a = c .before .before .before .before .before .args in
     let l = c .before .loop in
-    through-end (a .c) (a .datagram .now) (a .w) (a .mem .now) (a .room .now) (l .at) (l .v) (l .mem) (l .room) (l .inv) (c .loop-test .left) (c .before .before .before .before .before .pre .1 .1 .1 .1)
+    through-end (a .c) (a .datagram .now) (a .w) (a .mem .now) (a .room .now) (l .at) (l .v) (l .mem) (l .room) (l .inv) (c .loop-test .left)
 
 pub all-tlvs-spec : {M : Type 1} → statement M
 all-tlvs-spec =

@@ -1,7 +1,7 @@
 use borrow.Author.Needs.{needs}
 use native.Mathlib.Omega.{arith}
 use mathlib.Core.Path.{refl}
-use Rattle.node.proofs.Peerings.{midway-holds, midway-meta, room-left, added-moved}
+use Rattle.node.proofs.Peerings.{midway-holds, midway-row, room-left, added-published}
 use Rattle.node.proofs.peering.add_peer.Statement.{statement}
 use Rattle.node.proofs.peering.add_peer.Tie as tie
 
@@ -24,14 +24,14 @@ publish-with-requires : tie.Need-publish-with-requires
 publish-with-requires c κs =
     let a = c .before .before .before .before .before .before .before .args in
     let p = c .before .before .before .before .before .before .before .pre in
-    (p .0, (midway-holds (a .s) (a .mem .now) (p .1 .0), (midway-meta (a .s) (a .mem .now) (p .1 .0), omega (arith, p .1 .1 .1))))
+    (p .0, (midway-holds (a .s) (a .mem .now) (p .1 .0), (midway-row (a .s) (a .mem .now) (p .1 .0), omega (arith, p .1 .1 .1))))
 
 add-requires : tie.Need-add-requires
 add-requires c κs =
     let a = c .before .before .before .before .before .before .before .before .before .before .args in
     let p = c .before .before .before .before .before .before .before .before .before .before .pre in
     let r = c .before .before .publish-with in
-    (r .ensures .rep .peers, room-left (a .s) (a .mem .now) (p .0) _ _ _ (r .result) (r .last .1 .0) (r .ensures) (p .1 .1 .0))
+    (r .ensures .moved .rep .peers, room-left (a .s) (a .mem .now) (p .0) _ _ _ (r .result) (r .last .1 .0) (r .ensures) (p .1 .1 .0))
 
 same-length : tie.Need-same-length
 same-length c = search needs
@@ -43,7 +43,7 @@ returns c =
     let t = c .before .before .before .before .before .before .before .before .before .peer-tlv in
     let n = c .before .before .before .before .before .before .before .own-seq in
     let r = c .before .before .before .publish-with in
-    added-moved (a .s) (a .mem .now) (p .0) (a .clock) _ _ (r .result) (r .last .1 .0) (r .ensures)
+    added-published (a .s) (a .mem .now) (p .0) (a .clock) _ _ (r .result) (r .last .1 .0) (r .ensures)
     (a .p) (c .add .result) (n .result) (t .result) (n .ensures) (c .before .before .before .before .before .before .advanced .ensures) (t .ensures) refl (c .add .ensures .0) (c .add .ensures .1)
 
 pub add-peer-spec : {M : Type 1} → statement M

@@ -1,5 +1,5 @@
 use borrow.Author.Needs.{needs}
-use Rattle.node.proofs.Moves.{renumber-moved}
+use Rattle.node.proofs.Moves.{renumber-published}
 use Rattle.node.proofs.publish.publish_as.Statement.{statement}
 use Rattle.node.proofs.publish.publish_as.Tie as tie
 
@@ -13,7 +13,7 @@ returns : tie.Need-returns
 returns c =
     let a = c .before .before .before .args in
     let i = c .before .own-place in
-    renumber-moved (a .s) (a .mem .now) (i .result) (c .before .before .before .pre .0) (i .ensures) (a .clock) (a .seq) (c .renumber .result) (c .renumber .ensures)
+    renumber-published (a .s) (a .mem .now) (i .result) (c .before .before .before .pre .0) (i .ensures) (a .clock) (a .seq) (c .renumber .result) (c .renumber .ensures)
 
 pub publish-as-spec : {M : Type 1} → statement M
 publish-as-spec = tie.close (tie.spec own-place-requires renumber-requires returns)

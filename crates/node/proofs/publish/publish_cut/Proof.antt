@@ -1,7 +1,7 @@
 use borrow.Author.Needs.{needs}
 use native.Mathlib.Omega.{arith}
 use Rattle.node.proofs.Own.{own-length}
-use Rattle.node.proofs.Moves.{remove-moved}
+use Rattle.node.proofs.Moves.{remove-published}
 use Rattle.node.proofs.publish.publish_cut.Statement.{statement}
 use Rattle.node.proofs.publish.publish_cut.Tie as tie
 
@@ -24,7 +24,7 @@ returns c =
     let p = c .before .before .before .before .before .before .before .pre in
     let i = c .before .before .before .before .own-place in
     let r = c .before .before .remove-tlv in
-    remove-moved (a .s) (a .mem .now) (i .result) (p .0) (i .ensures) (a .clock) (a .seq) (r .result) (r .last .1 .0) (a .p) (a .n) (r .ensures)
+    remove-published (a .s) (a .mem .now) (i .result) (p .0) (i .ensures) (a .clock) (a .seq) (r .result) (r .last .1 .0) (a .p) (a .n) (r .ensures)
 
 pub publish-cut-spec : {M : Type 1} → statement M
 publish-cut-spec = tie.close (tie.spec own-place-requires remove-tlv-requires same-length returns)

@@ -4,7 +4,7 @@ use mathlib.Core.Path.{sym, ap, _∙_}
 use lib.ListN.{length}
 use Rattle.wire.specs.Row.{isRow}
 use Rattle.node.proofs.Own.{own-data, own-length}
-use Rattle.node.proofs.Moves.{insert-moved}
+use Rattle.node.proofs.Moves.{insert-published}
 use Rattle.node.proofs.publish.publish_with.Statement.{statement}
 use Rattle.node.proofs.publish.publish_with.Tie as tie
 
@@ -41,7 +41,7 @@ returns c =
     let d = c .before .before .before .before .before .data-of in
     let w = c .before .before .before .before .place-of in
     let r = c .before .before .insert-tlv in
-    insert-moved (a .s) (a .mem .now) (i .result) (p .0) (i .ensures) (a .clock) (a .seq) (r .result) (r .last .1 .0)
+    insert-published (a .s) (a .mem .now) (i .result) (p .0) (i .ensures) (a .clock) (a .seq) (r .result) (r .last .1 .0)
     (w .result) (a .tlv .now) (d .result .now) (d .ensures .0) (w .ensures .1) (r .ensures)
 
 pub publish-with-spec : {M : Type 1} → statement M

@@ -25,7 +25,7 @@ array-share-prefix-room c = search needs
 slice-aggregate-text : tie.Need-slice-aggregate-text
 slice-aggregate-text c =
     let r = c .before .before .before .before .before .report in
-    sym (length-take-le (r .result) (r .last .1 .1 .1 .1 .0) (r .ensures .within))
+    sym (length-take-le (r .result) (r .last .1 .1 .1 .1 .0) (r .ensures .0 .within))
 
 text-requires : tie.Need-text-requires
 text-requires c κs = search needs

@@ -47,7 +47,7 @@ same-length : tie.Need-same-length
 same-length c = search needs
 
 returns : tie.Need-returns
-returns c = changes-goes (c .before .before .before .before .before .before .pay .ensures) (pay-room _ _ _ _ _)
+returns c = changes-goes (c .before .before .before .before .before .before .pay .ensures .0) (pay-room _ _ _ _ _)
 
 pub pay-spec : {M : Type 1} → statement M
 pay-spec =

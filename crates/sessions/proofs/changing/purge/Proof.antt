@@ -23,7 +23,7 @@ end-requires : tie.Need-end-requires
 end-requires c κs = search needs
 
 returns : tie.Need-returns
-returns c = changes-goes (c .before .before .before .before .purge .ensures) (purge-room _ _ _ _)
+returns c = changes-goes (c .before .before .before .before .purge .ensures .0) (purge-room _ _ _ _)
 
 pub purge-spec : {M : Type 1} → statement M
 purge-spec =

@@ -26,7 +26,7 @@ same-length : tie.Need-same-length
 same-length c = search needs
 
 returns : tie.Need-returns
-returns c = changes-goes (c .before .before .before .before .before .before .resume .ensures) (resume-room _ _ _ _ _)
+returns c = changes-goes (c .before .before .before .before .before .before .resume .ensures .0) (resume-room _ _ _ _ _)
 
 pub resume-from-spec : {M : Type 1} → statement M
 resume-from-spec =

@@ -18,7 +18,7 @@ with-digest-requires c κs =
     let t = c .before .begin in
     let w = c .undigested in
     begun-readable (a .own) (a .clock) (a .randoms) (omega (arith, s .fits .own)) (s .pre .1) (s .good .1 .1 .0 .1 .0 .1)
-    (t .result) (a .mem .now) (t .ensures .1) (w .result) (w .ensures (a .mem .now) (t .ensures .0))
+    (t .result) (a .mem .now) (t .ensures .1) (w .result) (w .ensures .0 (a .mem .now) (t .ensures .0))
 
 returns : tie.Need-returns
 returns c =
@@ -27,7 +27,7 @@ returns c =
     let t = c .before .before .begin in
     let w = c .before .undigested in
     begun-moved (a .own) (a .clock) (a .randoms) (omega (arith, s .fits .own)) (s .pre .1) (s .good .1 .1 .0 .1 .0 .1)
-    (t .result) (a .mem .now) (t .ensures .1) (w .result) (w .ensures (a .mem .now) (t .ensures .0)) (c .with-digest .result) (c .with-digest .ensures)
+    (t .result) (a .mem .now) (t .ensures .1) (w .result) (w .ensures .0 (a .mem .now) (t .ensures .0)) (c .with-digest .result) (c .with-digest .ensures .0)
 
 pub begin-spec : {M : Type 1} → statement M
 begin-spec = tie.close (tie.spec begin-requires undigested-requires with-digest-requires returns)

@@ -1,4 +1,5 @@
 use borrow.Author.Needs.{needs}
+use mathlib.Core.Path.{refl}
 use Rattle.start.proofs.begin.undigested.Statement.{statement}
 use Rattle.start.proofs.begin.undigested.Tie as tie
 use Rattle.start.proofs.Starting.{with-parts}
@@ -14,7 +15,7 @@ returns c =
     let a = c .before .before .args in
     let p = c .before .no-peers in
     let e = c .fresh-endpoints in
-    with-parts (a .own) (a .clock) (a .randoms) (a .t) (p .result) (e .result) (p .ensures) (e .ensures)
+    (with-parts (a .own) (a .clock) (a .randoms) (a .t) (p .result) (e .result) (p .ensures) (e .ensures), refl)
 
 pub undigested-spec : {M : Type 1} → statement M
 undigested-spec = tie.close (tie.spec no-peers-requires fresh-endpoints-requires returns)

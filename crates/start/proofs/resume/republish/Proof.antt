@@ -5,7 +5,7 @@ use mathlib.Core.List.{List}
 use Prim.Native.Nat.{ℕ}
 use Rattle.wire.specs.Order.{good}
 use Rattle.model.specs.Figures.{dataLimit}
-use Rattle.start.proofs.Resuming.{unlinked-within, unlinked-moved}
+use Rattle.start.proofs.Resuming.{unlinked-within, unlinked-published}
 use Rattle.start.proofs.resume.republish.Statement.{statement}
 use Rattle.start.proofs.resume.republish.Tie as tie
 
@@ -40,7 +40,7 @@ returns c =
     let q = c .before .before .before .before .before .own-seq in
     let n = c .before .before .before .before .advanced in
     let p = c .before .before .publish-cut in
-    unlinked-moved (a .clock) (a .s) (a .mem .now) (d .result .now) (d .ensures) (l .result .start) (l .result .size) (q .result) (n .result)
+    unlinked-published (a .clock) (a .s) (a .mem .now) (d .result .now) (d .ensures) (l .result .start) (l .result .size) (q .result) (n .result)
     (l .ensures .1) (q .ensures) (n .ensures) (p .result) (p .last .1 .0) (p .ensures)
 
 pub republish-spec : {M : Type 1} → statement M

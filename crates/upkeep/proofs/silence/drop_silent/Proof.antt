@@ -1,14 +1,11 @@
 use borrow.Author.Needs.{needs}
-use mathlib.Core.Path.{ap, _∙_}
+use Rattle.upkeep.proofs.silence.drop_silent.Statement.{statement}
+use Rattle.upkeep.proofs.silence.drop_silent.Tie as tie
 use borrow.Author.Tests.{not-true, not-false}
-use Prim.Native.Nat.{ℕ}
-use Rattle.model.specs.Sequence.{advance}
 use Rattle.model.proofs.KeptParts.{midway-own}
 use Rattle.node.specs.View.{stateOf}
 use Rattle.upkeep.proofs.Leaving.{held-midway}
-use Rattle.upkeep.proofs.Removal.{calm-moved, silent-moved}
-use Rattle.upkeep.proofs.silence.drop_silent.Statement.{statement}
-use Rattle.upkeep.proofs.silence.drop_silent.Tie as tie
+use Rattle.upkeep.proofs.Removal.{calm-published, silent-published}
 
 going-requires : tie.Need-going-requires
 going-requires c κs = search needs
@@ -23,36 +20,22 @@ returns : tie.Need-returns
 returns c =
     let a = c .before .before .before .before .before .before .args in
     let g = c .before .before .before .going in
-    calm-moved (a .clock) (a .endpoint) (a .s) (a .mem .now) (c .before .before .before .before .before .before .pre .0) (g .result) (g .ensures) (c .before .is-republishing .ensures) (not-true _ (c .if1 .taken))
+    calm-published (a .clock) (a .endpoint) (a .s) (a .mem .now) (c .before .before .before .before .before .before .pre .0) (g .result) (g .ensures) (c .before .is-republishing .ensures) (not-true _ (c .if1 .taken))
 
-own-seq-requires : tie.Need-own-seq-requires
-own-seq-requires c κs =
+drop-peers-requires : tie.Need-drop-peers-requires
+drop-peers-requires c κs =
     let a = c .before .before .before .before .before .before .before .args in
     let p = c .before .before .before .before .before .before .before .pre in
-    (p .0, held-midway (a .clock) (a .s) (a .mem .now) (p .1 .0))
-
-advanced-requires : tie.Need-advanced-requires
-advanced-requires c κs = search needs
-
-without-links-requires : tie.Need-without-links-requires
-without-links-requires c κs =
-    let a = c .before .before .before .before .before .before .before .before .before .before .args in
-    let p = c .before .before .before .before .before .before .before .before .before .before .pre in
     (p .0, (held-midway (a .clock) (a .s) (a .mem .now) (p .1 .0), midway-own (stateOf (a .s) (a .mem .now)) (p .1 .0) .fine))
-
-staying-requires : tie.Need-staying-requires
-staying-requires c κs = search needs
 
 same-length-2 : tie.Need-same-length-2
 same-length-2 c = search needs
 
 returns-2 : tie.Need-returns-2
 returns-2 c =
-    let a = c .before .before .before .before .before .before .before .before .before .before .before .before .before .before .args in
-    let g = c .before .before .before .before .before .before .before .before .before .before .before .going in
-    let w = c .before .before .before .without-links in
-    silent-moved (a .clock) (a .endpoint) (a .s) (a .mem .now) (c .before .before .before .before .before .before .before .before .before .before .before .before .before .before .pre .0) (g .result) (g .ensures) (c .before .before .before .before .before .before .before .before .before .is-republishing .ensures) (not-false _ (c .before .before .before .before .before .before .before .before .if1 .left)) (c .before .before .before .before .before .advanced .result) (w .result) (w .last .1 .0) (c .staying .result)
-    (c .before .before .before .before .before .advanced .ensures ∙ ap (λ (n : ℕ). advance n 1) (c .before .before .before .before .before .before .own-seq .ensures)) (w .ensures) (c .staying .ensures)
+    let a = c .before .before .before .before .before .before .before .before .before .before .args in
+    let g = c .before .before .before .before .before .before .before .going in
+    silent-published (a .clock) (a .endpoint) (a .s) (a .mem .now) (c .before .before .before .before .before .before .before .before .before .before .pre .0) (g .result) (g .ensures) (c .before .before .before .before .before .is-republishing .ensures) (not-false _ (c .before .before .before .before .if1 .left)) (c .before .before .drop-peers .result) _ (c .before .before .drop-peers .ensures)
 
 pub drop-silent-spec : {M : Type 1} → statement M
 drop-silent-spec =
@@ -62,9 +45,6 @@ drop-silent-spec =
     is-republishing-requires
     same-length
     returns
-    own-seq-requires
-    advanced-requires
-    without-links-requires
-    staying-requires
+    drop-peers-requires
     same-length-2
     returns-2)

@@ -7,7 +7,7 @@ use Rattle.wire.specs.Row.{isRow}
 use Rattle.model.specs.Tick.{intervalIn}
 use Rattle.node.specs.View.{peerOf}
 use Rattle.table.proofs.Tables.{stands-of, gap-of}
-use Rattle.upkeep.proofs.KeepAlive.{stands-meta, interval-found, interval-missing}
+use Rattle.upkeep.proofs.KeepAlive.{stands-row, interval-found, interval-missing}
 use Rattle.upkeep.proofs.silence.interval_of.Statement.{statement}
 use Rattle.upkeep.proofs.silence.interval_of.Tie as tie
 
@@ -28,7 +28,7 @@ interval-in-requires c κs =
     let a = c .before .before .before .before .before .before .args in
     let g = c .before .before .found .given in
     let h = stands-of (a .t) (a .p .node) (g .0 .0) (c .before .before .before .before .find .result) (g .1) (c .before .before .before .before .find .ensures) in
-    ap isRow (c .data-of .ensures .0) ∙ stands-meta (a .t) (a .mem .now) (c .before .before .before .before .before .before .pre .0) (g .0 .0) (a .p .node) (c .before .before .before .before .before .before .pre .1) h
+    ap isRow (c .data-of .ensures .0) ∙ stands-row (a .t) (a .mem .now) (c .before .before .before .before .before .before .pre .0) (g .0 .0) (a .p .node) (c .before .before .before .before .before .before .pre .1) h
 
 enum-told : tie.Need-enum-told
 enum-told c = search needs

@@ -1,5 +1,4 @@
 use borrow.Author.Needs.{needs}
-use Rattle.node.specs.View.{stateOf}
 use Rattle.upkeep.proofs.Events.{dropped-readable, dropped-cleared}
 use Rattle.upkeep.proofs.tick.cleared.Statement.{statement}
 use Rattle.upkeep.proofs.tick.cleared.Tie as tie
@@ -12,7 +11,7 @@ reach-requires c κs =
     let a = c .before .before .before .before .before .before .args in
     let p = c .before .before .before .before .before .before .pre in
     let d = c .before .before .before .drop-silent in
-    dropped-readable (a .clock) (a .endpoint) (stateOf (a .s) (a .mem .now)) (p .1 .0) (a .mem .now) (d .result) (d .last .1 .0) (d .ensures) (p .1 .1)
+    dropped-readable (a .clock) (a .endpoint) (a .s) (a .mem .now) (p .1 .0) (d .result) (d .last .1 .0) (d .ensures) (p .1 .1)
 
 settle-requires : tie.Need-settle-requires
 settle-requires c κs = search needs
@@ -26,7 +25,7 @@ returns c =
     let p = c .before .before .before .before .before .before .before .before .before .pre in
     let d = c .before .before .before .before .before .before .drop-silent in
     let f = c .before .before .reach in
-    dropped-cleared (a .clock) (a .endpoint) (stateOf (a .s) (a .mem .now)) (p .1 .0) (a .mem .now) (d .result) (d .last .1 .0) (d .ensures) (a .randoms) (f .result .digest) (c .settle .result) (f .ensures .digest) (c .settle .ensures)
+    dropped-cleared (a .clock) (a .endpoint) (a .s) (a .mem .now) (p .1 .0) (d .result) (d .last .1 .0) (d .ensures) (a .randoms) (f .result .digest) (c .settle .result) (f .ensures .digest) (c .settle .ensures)
 
 pub cleared-spec : {M : Type 1} → statement M
 cleared-spec =

@@ -36,7 +36,7 @@ tick-requires c κs =
 with-endpoint-requires : tie.Need-with-endpoint-requires
 with-endpoint-requires c κs =
     let p = c .before .before .before .before .before .before .before .before .before .before .pre in
-    (c .before .before .before .before .before .before .cleared .ensures .moved .rep .four, (p .1 .1 .1 .0, p .1 .1 .1 .1 .0))
+    (c .before .before .before .before .before .before .cleared .ensures .published .moved .rep .four, (p .1 .1 .1 .0, p .1 .1 .1 .1 .0))
 
 same-length : tie.Need-same-length
 same-length c = search needs
@@ -50,13 +50,13 @@ returns c =
     let v = c .before .before .before .before .tick in
     let r = c .before .before .with-endpoint in
     quiet-tick (a .clock) (a .endpoint) (a .t6) (a .s) (a .mem .now) (d .result) m (d .ensures) (e .result) (e .ensures m) (v .result) (a .endpoint - 1) (pred-is (a .endpoint)) (v .ensures)
-    (r .result) (r .ensures .0 m (d .ensures .moved .rep)) (r .ensures .1 m) (a .room .now) (not-true _ (c .if1 .taken))
+    (r .result) (r .ensures .0 m (d .ensures .published .moved .rep)) (r .ensures .1 m) (r .ensures .2) (a .room .now) (not-true _ (c .if1 .taken))
 
 announce-requires : tie.Need-announce-requires
 announce-requires c κs =
     let p = c .before .before .before .before .before .before .before .before .before .before .before .before .before .before .before .pre in
     let d = c .before .before .before .before .before .before .before .before .before .before .before .cleared in
-    let f = c .before .before .before .before .with-endpoint .ensures .0 (d .last .1 .0) (d .ensures .moved .rep) in
+    let f = c .before .before .before .before .with-endpoint .ensures .0 (d .last .1 .0) (d .ensures .published .moved .rep) in
     (omega (arith, p .1 .1 .1 .1 .1), f .digest)
 
 same-length-2 : tie.Need-same-length-2
@@ -75,7 +75,7 @@ returns-2 c =
     let r = c .before .before .before .before .before .before .before .with-endpoint in
     let t = c .before .before .announce in
     sent-tick (a .clock) (a .endpoint) (a .t6) (a .s) (a .mem .now) (d .result) m (d .ensures) (e .result) (e .ensures m) (v .result) (a .endpoint - 1) (pred-is (a .endpoint)) (v .ensures)
-    (r .result) (r .ensures .0 m (d .ensures .moved .rep)) (r .ensures .1 m) (a .room .now) (not-false _ (c .before .before .before .before .before .if1 .left)) (c .before .before .before .before .before .before .before .before .before .before .before .before .before .before .before .before .before .before .pre .1 .1 .1 .1 .1) (t .last .0) (t .ensures)
+    (r .result) (r .ensures .0 m (d .ensures .published .moved .rep)) (r .ensures .1 m) (r .ensures .2) (a .room .now) (not-false _ (c .before .before .before .before .before .if1 .left)) (c .before .before .before .before .before .before .before .before .before .before .before .before .before .before .before .before .before .before .pre .1 .1 .1 .1 .1) (t .last .0) (t .ensures)
 
 pub tick-spec : {M : Type 1} → statement M
 tick-spec =

@@ -4,9 +4,9 @@ use mathlib.Core.Path.{_≡_}
 use Prim.Native.Nat.{_-_, _≤_}
 use lib.ListN.{length, length-set}
 use Rattle.model.specs.Figures.{mostPeers}
-use Rattle.upkeep.proofs.Leaving.{Stayed, stayed-none, stayed-not, stayed-one, stayed-all}
-use Rattle.upkeep.proofs.silence.staying.Statement.{statement}
-use Rattle.upkeep.proofs.silence.staying.Tie as tie
+use Rattle.node.proofs.Stripping.{Stayed, stayed-none, stayed-not, stayed-one, stayed-all}
+use Rattle.node.proofs.leaving.staying.Statement.{statement}
+use Rattle.node.proofs.leaving.staying.Tie as tie
 
 abbrev Inv-loop : tie.InvT-loop
 Inv-loop p marks count r₀ j₀ i₀ r j i = (j ≤ i) × (i ≤ count) × (length (r .list) ≡ mostPeers) × Stayed marks (p .list) i (r .list) j

@@ -1,5 +1,6 @@
 -- Demand 3 over the traffic that there is, carried over to the promises. Assumes nothing.
 use mathlib.Core.Path.{_≡_, refl, sym, ap, subst, _∙_}
+use mathlib.Core.Bool.{true, false}
 use mathlib.Core.List.{List, [], _∷_, _++_, append-nil, append-assoc}
 use mathlib.Core.Logic.{_↔_}
 use Prim.Native.Nat.{ℕ, _≤_, _<_}
@@ -8,7 +9,7 @@ use lib.ListN.{length}
 use lib.Dec.{leb}
 use borrow.Author.Tests.{leb-true, leb-false}
 use Rattle.base.specs.Lists.{In, All}
-use Rattle.base.proofs.Tests.{by-test}
+use Rattle.base.proofs.Tests.{no-way, by-test}
 use Rattle.base.proofs.Sorted.{keep-ascending}
 use Rattle.wire.specs.Payment.{Payment}
 use Rattle.model.specs.Figures.{tableBytes, mostBytes}
@@ -27,9 +28,10 @@ use Rattle.table.proofs.Tables.{view-ascending}
 use Rattle.node.specs.View.{stateOf}
 use Rattle.node.specs.declared.State.{State}
 use Rattle.exchange.specs.Datagram.{callOf}
-use Rattle.ledger.specs.Calls.{Made, Promised, stateThen, memoryThen, Along, lastState, lastMemory, Flowing, turnOf, turnsOf, knownOf, Flowed, othersThen, FlowLosesNothing}
+use Rattle.ledger.specs.Calls.{PublicCall, Promised, stateAfter, memoryAfter, Trace, stateAtEnd, memoryAtEnd}
+use Rattle.ledger.specs.Traffic.{continues, turnOf, turnsOf, heldOrHeardOf, Carried, othersAtEnd, RealTrafficLosesNothing}
 use Rattle.ledger.proofs.Left.{not-small, not-small-room}
-use Rattle.ledger.proofs.Calls.{size}
+use Rattle.ledger.proofs.Slots.{size}
 use Rattle.ledger.proofs.Deliveries.{not-accepted, not-moved, holds-own}
 
 -- ---- the model's state after the calls is that of the code's state and memory
@@ -39,29 +41,24 @@ unfolding turns
 turns-append v [] ys = refl
 turns-append v (x ∷ xs) ys = turns-append (turned v x) xs ys
 
-one-turn : (x : Made) (s : State) (m : List ℕ) → Flowing x → Promised x s m → turns (stateOf s m) (turnOf (length m) x) ≡ stateOf (stateThen x s) (memoryThen x m)
+one-turn : (x : PublicCall) (s : State) (m : List ℕ) → continues x ≡ true → Promised x s m → turns (stateOf s m) (turnOf (length m) x) ≡ stateOf (stateAfter x s) (memoryAfter x m)
 unfolding turns
-one-turn (Made.begins own clock rs r) s m f h = absurd f
-one-turn (Made.resumes bytes clock rs r m′) s m f h = absurd f
-one-turn (Made.receives datagram clock endpoint unicast rs q r m′ q′) s m f h = sym (ap (λ (a : ModelAnswer). a .state) (h .is))
-one-turn (Made.ticks clock endpoint rs q r m′ q′) s m f h = sym (ap (λ (a : ModelSent). a .state) (h .is))
-one-turn (Made.pays clock p rs r m′) s m f h = sym (ap (λ (a : ModelDone). a .state) (h .is))
-one-turn (Made.purges clock rs r) s m f h = absurd f
-one-turn (Made.totals clock household r) s m f h = refl
-one-turn (Made.sums clock r) s m f h = refl
-one-turn (Made.marks clock r) s m f h = refl
-one-turn (Made.saves clock q r q′) s m f h = refl
-one-turn (Made.shows n r) s m f h = refl
-one-turn (Made.asks n k) s m f h = refl
+one-turn (PublicCall.begins own clock rs r) s m f h = no-way false f refl
+one-turn (PublicCall.resumes bytes clock rs r m′) s m f h = no-way false f refl
+one-turn (PublicCall.receives datagram clock endpoint unicast rs q r m′ q′) s m f h = sym (ap (λ (a : ModelAnswer). a .state) (h .is))
+one-turn (PublicCall.ticks clock endpoint rs q r m′ q′) s m f h = sym (ap (λ (a : ModelSent). a .state) (h .is))
+one-turn (PublicCall.pays clock p rs r m′) s m f h = sym (ap (λ (a : ModelDone). a .state) (h .0 .is))
+one-turn (PublicCall.purges clock rs r) s m f h = no-way false f refl
+one-turn (PublicCall.looks x) s m f h = refl
 
-all-turns : (xs : List Made) (s : State) (m : List ℕ) → All Flowing xs → Along s m xs → turns (stateOf s m) (turnsOf (length m) xs) ≡ stateOf (lastState s xs) (lastMemory m xs)
+all-turns : (xs : List PublicCall) (s : State) (m : List ℕ) → All (λ x. continues x ≡ true) xs → Trace s m xs → turns (stateOf s m) (turnsOf (length m) xs) ≡ stateOf (stateAtEnd s xs) (memoryAtEnd m xs)
 unfolding turns
 all-turns [] s m f h = refl
 all-turns (x ∷ xs) s m f h =
     turns-append (stateOf s m) (turnOf (length m) x) (turnsOf (length m) xs)
     ∙ ap (λ (v : ModelState). turns v (turnsOf (length m) xs)) (one-turn x s m (f .0) (h .0))
-    ∙ ap (λ (n : ℕ). turns (stateOf (stateThen x s) (memoryThen x m)) (turnsOf n xs)) (sym (size x s m (h .0)))
-    ∙ all-turns xs (stateThen x s) (memoryThen x m) (f .1) (h .1)
+    ∙ ap (λ (n : ℕ). turns (stateOf (stateAfter x s) (memoryAfter x m)) (turnsOf n xs)) (sym (size x s m (h .0)))
+    ∙ all-turns xs (stateAfter x s) (memoryAfter x m) (f .1) (h .1)
 
 -- ---- a table memory below its figure: every call is refused, so that nothing changes and nothing is heard
 
@@ -79,28 +76,23 @@ module _ (n : ℕ) (short : n < tableBytes) (v : ModelState) where
   pay-idle clock p rs =
       refusals-change-nothing .pays clock p rs n v (λ z. omega (arith, short, not-small n (refusals-exact .pays clock p rs n v .none .0 z .1 .1 .0)))
 
-  turn-idle : (x : Made) → Idle (turnOf n x)
+  turn-idle : (x : PublicCall) → Idle (turnOf n x)
   unfolding turns heardOver heardBy
-  turn-idle (Made.begins own clock rs r) = (refl, refl)
-  turn-idle (Made.resumes bytes clock rs r m′) = (refl, refl)
-  turn-idle (Made.receives datagram clock endpoint unicast rs q r m′ q′) =
+  turn-idle (PublicCall.begins own clock rs r) = (refl, refl)
+  turn-idle (PublicCall.resumes bytes clock rs r m′) = (refl, refl)
+  turn-idle (PublicCall.receives datagram clock endpoint unicast rs q r m′ q′) =
       (not-moved v (callOf datagram clock endpoint unicast rs n (length q)) short, rw (not-accepted v (callOf datagram clock endpoint unicast rs n (length q)) short))
-  turn-idle (Made.ticks clock endpoint rs q r m′ q′) = (tick-idle clock endpoint rs (length q), refl)
-  turn-idle (Made.pays clock p rs r m′) = (pay-idle clock p rs, refl)
-  turn-idle (Made.purges clock rs r) = (refl, refl)
-  turn-idle (Made.totals clock household r) = (refl, refl)
-  turn-idle (Made.sums clock r) = (refl, refl)
-  turn-idle (Made.marks clock r) = (refl, refl)
-  turn-idle (Made.saves clock q r q′) = (refl, refl)
-  turn-idle (Made.shows node r) = (refl, refl)
-  turn-idle (Made.asks node k) = (refl, refl)
+  turn-idle (PublicCall.ticks clock endpoint rs q r m′ q′) = (tick-idle clock endpoint rs (length q), refl)
+  turn-idle (PublicCall.pays clock p rs r m′) = (pay-idle clock p rs, refl)
+  turn-idle (PublicCall.purges clock rs r) = (refl, refl)
+  turn-idle (PublicCall.looks x) = (refl, refl)
 
   heard-append : (u : ModelState) (xs ys : List Turn) → heardOver u (xs ++ ys) ≡ heardOver u xs ++ heardOver (turns u xs) ys
   unfolding heardOver turns
   heard-append u [] ys = refl
   heard-append u (x ∷ xs) ys = ap (λ (l : List Statement). heardBy u x ++ l) (heard-append (turned u x) xs ys) ∙ sym (append-assoc (heardBy u x) (heardOver (turned u x) xs) (heardOver (turns (turned u x) xs) ys))
 
-  all-idle : (xs : List Made) → Idle (turnsOf n xs)
+  all-idle : (xs : List PublicCall) → Idle (turnsOf n xs)
   unfolding turns heardOver
   all-idle [] = (refl, refl)
   all-idle (x ∷ xs) =
@@ -114,32 +106,32 @@ module _ (n : ℕ) (short : n < tableBytes) (v : ModelState) where
 -- ---- both halves
 
 module _ (s : State) (m : List ℕ) where
-  traffic : (xs : List Made) → Flowed s m xs → tableBytes ≤ length m → Traffic (stateOf s m) (turnsOf (length m) xs)
+  traffic : (xs : List PublicCall) → Carried s m xs → tableBytes ≤ length m → Traffic (stateOf s m) (turnsOf (length m) xs)
   unfolding stateOf
   traffic xs d room = record { valid = d .left .valid room; few = d .few; close = d .close; single = d .single }
 
-  after : (xs : List Made) → Flowed s m xs → othersOf (s .own) (turns (stateOf s m) (turnsOf (length m) xs) .table) ≡ othersThen s m xs
+  after : (xs : List PublicCall) → Carried s m xs → othersOf (s .own) (turns (stateOf s m) (turnsOf (length m) xs) .table) ≡ othersAtEnd s m xs
   unfolding stateOf
-  after xs d = ap (λ (v : ModelState). othersOf (s .own) (v .table)) (all-turns xs s m (d .flowing) (d .along))
+  after xs d = ap (λ (v : ModelState). othersOf (s .own) (v .table)) (all-turns xs s m (d .goesOn) (d .trace))
 
   -- nothing changed
-  idle-after : (xs : List Made) → Flowed s m xs → length m < tableBytes → othersOf (s .own) (view (s .table) m) ≡ othersThen s m xs
+  idle-after : (xs : List PublicCall) → Carried s m xs → length m < tableBytes → othersOf (s .own) (view (s .table) m) ≡ othersAtEnd s m xs
   unfolding stateOf
   idle-after xs d short = ap (λ (v : ModelState). othersOf (s .own) (v .table)) (sym (all-idle (length m) short (stateOf s m) xs .0)) ∙ after xs d
 
-  kept : (xs : List Made) → Flowed s m xs → Holds (λ (x : Statement). In x (knownOf s m xs)) (othersThen s m xs)
+  kept : (xs : List PublicCall) → Carried s m xs → Holds (λ (x : Statement). In x (heldOrHeardOf s m xs)) (othersAtEnd s m xs)
   unfolding stateOf
   kept xs d =
       by-test (leb tableBytes (length m))
-      (λ y. subst (Holds (λ (x : Statement). In x (knownOf s m xs))) (after xs d)
+      (λ y. subst (Holds (λ (x : Statement). In x (heldOrHeardOf s m xs))) (after xs d)
       (traffic-loses-nothing .kept (stateOf s m) (turnsOf (length m) xs) (traffic xs d (leb-true tableBytes (length m) y))))
       (λ n. let short : length m < tableBytes = leb-false tableBytes (length m) n in
       rw (all-idle (length m) short (stateOf s m) xs .1, append-nil (statements (othersOf (s .own) (view (s .table) m))), sym (idle-after xs d short))
       (holds-own (othersOf (s .own) (view (s .table) m)) (keep-ascending idOf _ (view (s .table) m) (view-ascending (s .table) (d .left .arranged) m))))
 
-  alike : (xs ys : List Made) → Flowed s m xs → Flowed s m ys
+  alike : (xs ys : List PublicCall) → Carried s m xs → Carried s m ys
       → ((x : Statement) → In x (heardOver (stateOf s m) (turnsOf (length m) xs)) ↔ In x (heardOver (stateOf s m) (turnsOf (length m) ys)))
-      → statements (othersThen s m xs) ≡ statements (othersThen s m ys)
+      → statements (othersAtEnd s m xs) ≡ statements (othersAtEnd s m ys)
   unfolding stateOf
   alike xs ys d e same =
       by-test (leb tableBytes (length m))
@@ -148,5 +140,5 @@ module _ (s : State) (m : List ℕ) where
       ∙ ap statements (after ys e))
       (λ n. let short : length m < tableBytes = leb-false tableBytes (length m) n in ap statements (sym (idle-after xs d short) ∙ idle-after ys e short))
 
-pub flow-loses-nothing : FlowLosesNothing
-flow-loses-nothing = record { kept = kept; alike = alike }
+pub real-traffic-loses-nothing : RealTrafficLosesNothing
+real-traffic-loses-nothing = record { kept = kept; alike = alike }

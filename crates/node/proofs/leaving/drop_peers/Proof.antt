@@ -1,0 +1,58 @@
+use borrow.Author.Needs.{needs}
+use Rattle.node.proofs.leaving.drop_peers.Statement.{statement}
+use Rattle.node.proofs.leaving.drop_peers.Tie as tie
+use Rattle.node.proofs.Stripping.{strip-asks, slot-asks, peers-dropped}
+
+own-place-requires : tie.Need-own-place-requires
+own-place-requires c κs = search needs
+
+meta-at-requires : tie.Need-meta-at-requires
+meta-at-requires c κs = search needs
+
+mul-strip : tie.Need-mul-strip
+mul-strip c = search needs
+
+strip-requires : tie.Need-strip-requires
+strip-requires c κs =
+    let a = c .before .before .before .before .before .before .args in
+    let p = c .before .before .before .before .before .before .pre in
+    let i = c .before .before .before .own-place in
+    (p .0 .peers, strip-asks (a .s) (a .mem .now) (p .0) (i .result) (i .ensures) (p .1 .1) (c .before .before .meta-at .result) (c .before .before .meta-at .ensures) (a .marks))
+
+advanced-requires : tie.Need-advanced-requires
+advanced-requires c κs = search needs
+
+publish-slot-requires : tie.Need-publish-slot-requires
+publish-slot-requires c κs =
+    let a = c .before .before .before .before .before .before .before .before .before .before .before .args in
+    let p = c .before .before .before .before .before .before .before .before .before .before .before .pre in
+    let i = c .before .before .before .before .before .before .before .before .own-place in
+    slot-asks (a .s) (a .mem .now) (p .0) (i .result) (i .ensures) (p .1 .1) (c .before .before .before .before .before .before .before .meta-at .result) (c .before .before .before .before .before .before .before .meta-at .ensures) (a .marks) (c .before .before .before .before .strip .last .0) (c .before .before .before .before .strip .result) (c .before .before .before .before .strip .ensures)
+
+staying-requires : tie.Need-staying-requires
+staying-requires c κs = search needs
+
+same-length : tie.Need-same-length
+same-length c = search needs
+
+returns : tie.Need-returns
+returns c =
+    let a = c .before .before .before .before .before .before .before .before .before .before .before .before .before .args in
+    let p = c .before .before .before .before .before .before .before .before .before .before .before .before .before .pre in
+    let i = c .before .before .before .before .before .before .before .before .before .before .own-place in
+    peers-dropped (a .s) (a .mem .now) (p .0) (i .result) (i .ensures) (p .1 .1) (c .before .before .before .before .before .before .before .before .before .meta-at .result) (c .before .before .before .before .before .before .before .before .before .meta-at .ensures) (a .marks) (c .before .before .before .before .before .before .strip .last .0) (c .before .before .before .before .before .before .strip .result) (c .before .before .before .before .before .before .strip .ensures)
+    (a .clock) (c .before .before .advanced .result) (c .before .publish-slot .result) (c .staying .result) (c .before .before .advanced .ensures) (c .before .publish-slot .ensures) (c .staying .ensures)
+
+pub drop-peers-spec : {M : Type 1} → statement M
+drop-peers-spec =
+    tie.close
+    (tie.spec
+    own-place-requires
+    meta-at-requires
+    mul-strip
+    strip-requires
+    advanced-requires
+    publish-slot-requires
+    staying-requires
+    same-length
+    returns)
