@@ -267,10 +267,6 @@ module _ {A : Type 0} (key : A → ℕ) where
   keep-ascending f (x ∷ xs) h =
       by-test (f x) (λ b. rw b (keep-above f (key x) xs (h .0), keep-ascending f xs (h .1))) (λ b. rw b (keep-ascending f xs (h .1)))
 
-  pub above-all : (n : ℕ) (xs : List A) → All (λ a. n < key a) xs → Above key n xs
-  above-all n [] h = tt
-  above-all n (x ∷ xs) h = (h .0, above-all n xs (h .1))
-
   -- what is found stays found if it is kept
   pub find-keep : (f : A → Bool) (n : ℕ) (a : A) (xs : List A) → find key n xs ≡ some a → f a ≡ true → find key n (keep f xs) ≡ some a
   unfolding find

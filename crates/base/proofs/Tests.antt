@@ -60,7 +60,3 @@ pub by-order {ℓ} : {X : Type ℓ} (a b : ℕ) → (a < b → X) → (a ≡ b �
 by-order a b f g h =
     by-test (ltb a b) (λ e. f (ltb-true a b e))
     (λ e. by-test (eqb a b) (λ q. g (eqb-true a b q)) (λ q. h (let n : a ≡ b → ⊥ = eqb-false a b q in let l : b ≤ a = ltb-false a b e in omega arith)))
-
-pub not-or : (a b : Bool) → not (a || b) ≡ not a && not b
-not-or true b = refl
-not-or false b = refl

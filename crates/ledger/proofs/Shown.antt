@@ -4,18 +4,15 @@ use mathlib.Core.List.{List}
 use mathlib.Core.Option.{none, some}
 use Prim.Native.Nat.{ℕ, _*_, _≤_, _<_}
 use native.Mathlib.Omega.{arith}
-use lib.ListN.{length, getD}
-use lib.Seq.{getD-take}
+use lib.ListN.{length}
 use borrow.Author.Tests.{lt-ltb, le-ltb, eq-eqb, ne-eqb}
-use Rattle.base.specs.Sorted.{find}
-use Rattle.base.proofs.Places.{find-at}
 use Rattle.model.specs.Figures.{dataLimit, tableBytes}
 use Rattle.model.specs.Table.{look}
 use Rattle.model.specs.Show.{shown, refusalShow}
-use Rattle.table.specs.View.{blank, live, metaAt, metaId, dataOf, seen, Arranged, Read, Stands, Gap}
+use Rattle.table.specs.View.{metaAt, dataOf, seen, metaOf, Arranged, Read, Stands, Gap}
 use Rattle.table.specs.declared.Table.{Table}
 use Rattle.table.specs.declared.Entry.{Entry as Meta}
-use Rattle.table.proofs.Tables.{live-length, look-gap, look-stands}
+use Rattle.table.proofs.Tables.{stands-found, look-gap, look-stands}
 use Rattle.node.specs.declared.State.{State}
 use Rattle.node.specs.View.{stateOf}
 use Rattle.node.proofs.Parts.{state-table}
@@ -23,14 +20,11 @@ use Rattle.ledger.specs.Promises.{AsLeft, Shows}
 
 -- ---- a node stands at one place only
 
-module _ (t : Table) (k : Arranged t) (n : ℕ) where
-  meta-found : (i : ℕ) → Stands t n i → find metaId n (live t) ≡ some (metaAt t i)
-  meta-found i h =
-      let e : getD (live t) i blank ≡ metaAt t i = getD-take (t .count) (t .entries) i blank (h .at) in
-      find-at metaId blank n (live t) i (k .ascending) (rw (live-length t k) (h .at)) (ap metaId e ∙ h .named) ∙ ap some e
-
-  one-row : (i j : ℕ) → Stands t n i → Stands t n j → metaAt t i ≡ metaAt t j
-  one-row i j g h = let p : find metaId n (live t) ≡ some (metaAt t i) = meta-found i g in let q : find metaId n (live t) ≡ some (metaAt t j) = meta-found j h in cc
+one-place : (t : Table) → Arranged t → (n i j : ℕ) → Stands t n i → Stands t n j → metaAt t i ≡ metaAt t j
+one-place t k n i j g h =
+    let p : metaOf t n ≡ some (metaAt t i) = stands-found t n i k g in
+    let q : metaOf t n ≡ some (metaAt t j) = stands-found t n j k h in
+    cc
 
 -- ---- the number of the call
 
@@ -83,6 +77,6 @@ module _ (n : ℕ) (s : State) (m : List ℕ) where
           record {
             is = ap (dataOf m) (r .same) ∙ sym shown-is;
             within = omega (arith, r .low, r .short);
-            slot = λ z j g. ap (λ (x : Meta). x .slot * dataLimit) (r .same ∙ one-row (s .table) (l .arranged) n i j h g);
+            slot = λ z j g. ap (λ (x : Meta). x .slot * dataLimit) (r .same ∙ one-place (s .table) (l .arranged) n i j h g);
             refused = λ z. absurd (z (sym (show-found n s m l room i h)));
           }

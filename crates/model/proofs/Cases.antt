@@ -1,12 +1,11 @@
 -- The definitions of a datagram's handling and of ticks, one law a case: the layers above cite these laws and open no definition.
 -- Assumes nothing.
-use mathlib.Core.Path.{_≡_, refl, _∙_}
+use mathlib.Core.Path.{_≡_, refl}
 use mathlib.Core.Bool.{Bool, true, false, not, cond, _||_}
 use mathlib.Core.List.{List, [], _∷_, _++_, map}
 use mathlib.Core.Option.{none, some}
 use Prim.Native.Nat.{ℕ, pred, _+_, _*_, _≤_, _<_, min}
-use native.Mathlib.Nat.{zero-add}
-use lib.ListN.{length, take, drop, getD, length-append}
+use lib.ListN.{length, take, drop, getD}
 use lib.Dec.{ltb, leb}
 use borrow.Author.Tests.{eq-eqb, ne-eqb, le-leb, lt-leb, le-ltb, lt-ltb}
 use Rattle.base.specs.Lists.{keep}
@@ -14,7 +13,7 @@ use Rattle.base.specs.Bytes.{u32At, big32, same}
 use Rattle.base.proofs.Tests.{by-test}
 use Rattle.wire.specs.Row.{typeOf, valueOf, tlvs}
 use Rattle.wire.proofs.Encoded.{encode-length}
-use Rattle.model.specs.Figures.{mostBytes, leastInterval, greatestInterval, redundancy, refreshAge, reclaimStep}
+use Rattle.model.specs.Figures.{leastInterval, greatestInterval, redundancy, refreshAge, reclaimStep}
 use Rattle.model.specs.Sequence.{advance}
 use Rattle.model.specs.Table.{Entry, look, put, ageAt}
 use Rattle.model.specs.Reach.{inReach}
@@ -51,29 +50,11 @@ module _ (c : Context) (t : List ℕ) (w : Work) where
     unfolding piece
     piece-first = rw (eq-eqb (length (w .out)) 0 e)
 
-    pub fits-first : fits c t w ≡ leb (12 + length t) mostBytes
-    fits-first = rw (piece-first, length-append, endpoint-length, e, zero-add)
-
-    pub reply-first : 12 + length t ≤ mostBytes → reply c t w ≡ withOut (w .out ++ (endpointTlv (w .state .own) (c .endpoint) ++ t)) w
-    reply-first h = reply-fits (fits-first ∙ le-leb (12 + length t) mostBytes h) ∙ rw piece-first
-
-    pub reply-first-full : mostBytes < 12 + length t → reply c t w ≡ omitOne w
-    reply-first-full h = reply-full (fits-first ∙ lt-leb (12 + length t) mostBytes h)
-
   -- the later ones
   module _ (n : ¬ (length (w .out) ≡ 0)) where
     pub piece-later : piece c t w ≡ t
     unfolding piece
     piece-later = rw (ne-eqb (length (w .out)) 0 n)
-
-    pub fits-later : fits c t w ≡ leb (length (w .out) + length t) mostBytes
-    fits-later = rw piece-later
-
-    pub reply-later : length (w .out) + length t ≤ mostBytes → reply c t w ≡ withOut (w .out ++ t) w
-    reply-later h = reply-fits (fits-later ∙ le-leb (length (w .out) + length t) mostBytes h) ∙ rw piece-later
-
-    pub reply-later-full : mostBytes < length (w .out) + length t → reply c t w ≡ omitOne w
-    reply-later-full h = reply-full (fits-later ∙ lt-leb (length (w .out) + length t) mostBytes h)
 
 module _ (c : Context) (w : Work) where
   pub replies-none : replies c [] w ≡ w
@@ -337,10 +318,6 @@ module _ (clock random : ℕ) (t : Trickle) where
   reset-least h = rw (le-ltb leastInterval (t .interval) h)
 
 -- ---- settling: the digest is as before, or every endpoint is reset with its random number
-
-pub reset-all-none : (clock : ℕ) (rs : List ℕ) → resetAll clock rs [] ≡ []
-unfolding resetAll
-reset-all-none clock rs = refl
 
 pub reset-all-next : (clock r : ℕ) (rs : List ℕ) (e : Endpoint) (es : List Endpoint)
     → resetAll clock (r ∷ rs) (e ∷ es) ≡ withTrickle (reset clock r (e .trickle)) e ∷ resetAll clock rs es

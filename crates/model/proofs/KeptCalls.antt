@@ -220,8 +220,3 @@ module _ (clock : ℕ) (rs : List ℕ) (table : ℕ) (s : State) where
       accepted : All (λ r. r .applies ≡ false) rowsPurge → Valid (settle clock rs (withTable (reached (s .own) clock (s .table)) s))
       accepted a =
           settle-valid clock rs (withTable (reached (s .own) clock (s .table)) s) (reached-kept clock s (valid-midway clock s v (not-back clock s (a .1 .0)))) (not-late clock (a .0))
-
-  pub purge-own : purge clock rs table s .state .own ≡ s .own
-  unfolding purge purged settle
-  purge-own =
-      by-cond (λ (a : Done). a .state .own ≡ s .own) (eqb (refusalPurge clock table s) 0) (record { number = 0; state = purged clock rs s }) _ (λ b. refl) (λ b. refl)

@@ -108,19 +108,6 @@ module _ (s : State) (v : Valid s) where
   pub own-held : look (s .own) (s .table) ≡ some (ownEntry s)
   own-held = midway-held s (v .inside)
 
-  pub own-node : idOf (ownEntry s) ≡ s .own
-  own-node = own-in s (v .inside) .1
-
-  pub own-fits : EntryFits (s .last) (ownEntry s)
-  own-fits = midway-own s (v .inside)
-
-  pub own-good : good dataLimit (ownData s) ≡ true
-  own-good = own-fits .fine
-
-  -- all data of the table is good
-  pub table-good : All (λ e. good dataLimit (e .says .nodeData) ≡ true) (s .table)
-  table-good = all-more (EntryFits (s .last)) (λ e. good dataLimit (e .says .nodeData) ≡ true) (λ e f. f .fine) (s .table) (v .inside .table .entries)
-
 -- ---- an entry put into the table
 
 pub look-put : (e : Entry) (t : List Entry) → look (idOf e) (put e t) ≡ some e

@@ -216,10 +216,6 @@ module _ (own clock : ℕ) (t : List Entry) where
   unfolding reached
   reached-ascending a = keep-ascending idOf (λ e. inReach own clock t (idOf e)) t a
 
-  pub reached-short : length (reached own clock t) ≤ length t
-  unfolding reached
-  reached-short = omega (arith, keep-length (λ e. inReach own clock t (idOf e)) t)
-
 -- ---- our own node
 
 -- a valid state holds it: in the table, and so among the vertices

@@ -11,7 +11,7 @@ pub mod KeptReceive
 pub mod KeptTick
 pub mod Snapshots
 pub mod KeptCalls
-pub mod Others
+pub mod Aside
 pub mod Traffic
 pub mod Kept
 pub mod Totals

@@ -3,23 +3,21 @@ use mathlib.Core.Path.{_≡_, refl, sym, ap, _∙_, subst}
 use mathlib.Core.Bool.{Bool, true, false, cond, _&&_}
 use mathlib.Core.List.{List, [], _∷_}
 use mathlib.Core.Option.{Option, none, some}
-use mathlib.Core.Logic.{inl}
 use Prim.Native.Nat.{ℕ, _<_}
 use native.Mathlib.Omega.{arith}
 use lib.ListN.{length, length-map}
 use lib.Dec.{eqb, leb}
 use borrow.Author.Tests.{eqb-true, eq-eqb, ne-eqb, lt-leb}
 use Rattle.base.specs.Lists.{orElse}
-use Rattle.base.specs.Bytes.{Bytes, same}
+use Rattle.base.specs.Bytes.{same}
 use Rattle.base.specs.Sorted.{find, insert}
 use Rattle.base.proofs.Tests.{no-way, and-left, and-right, by-test}
 use Rattle.base.proofs.Sorted.{by-find, find-some, find-map, insert-map}
-use Rattle.base.proofs.Bytes.{bytes-take, bytes-drop, u32-small}
 use Rattle.sha256.specs.Sha256.{hash16}
-use Rattle.wire.specs.Row.{typeOf, lengthOf, valueOf, tlvs}
+use Rattle.wire.specs.Row.{typeOf, valueOf, tlvs}
 use Rattle.wire.specs.Order.{good}
 use Rattle.model.specs.Figures.{mostNodes, dataLimit}
-use Rattle.model.specs.Sequence.{circle, older}
+use Rattle.model.specs.Sequence.{older}
 use Rattle.model.specs.Table.{Statement, Entry, idOf, look, put, statements}
 use Rattle.model.specs.State.{State, settle}
 use Rattle.model.specs.Decide.{Received, Decision, receivedOf, taken, withData, withoutData, wantedNew, wantedHeld, differs, decide, after}
@@ -27,7 +25,6 @@ use Rattle.model.specs.Handle.{Context, Sender, Work, withState, touchBy
 use Rattle.model.specs.Receive.{Call, Answer, contextOf, startOf, handled, refusalReceive, answered, receive}
 use Rattle.model.specs.Messages.{requestNodeTlv}
 use Rattle.model.specs.Delivery.{statementOf, alone, brought, accepted, next, Brings}
-use Rattle.wire.proofs.Good.{tlvs-bytes}
 use Rattle.model.proofs.Merge.{nodeOf, saysOf, Welcome, absorb, absorb-new, absorb-newer, absorb-old}
 
 -- ---- the statement that is brought
@@ -85,15 +82,6 @@ found-in c x (t ∷ []) p e =
 pub found : (c : Call) (x : Statement) → brought c ≡ some x → Found c x
 unfolding brought
 found c x e = found-in c x (tlvs (c .datagram)) refl e
-
--- a datagram of bytes brings a number of the circle
-pub brought-number : (c : Call) (x : Statement) → Bytes (c .datagram) → brought c ≡ some x → x .seq < circle
-unfolding receivedOf valueOf
-brought-number c x h e =
-    let f = found c x e in
-    let b : Bytes (f .tlv) = tlvs-bytes (c .datagram) (f .tlv) h (rw (f .only) (inl refl)) in
-    subst (λ (y : Statement). y .seq < circle) (f .is)
-    (u32-small (valueOf (f .tlv)) 4 (bytes-take (lengthOf (f .tlv)) _ (bytes-drop 4 (f .tlv) b)))
 
 -- ---- refused or accepted
 

@@ -7,7 +7,7 @@ use Prim.Native.Nat.{ℕ, zero, suc, _+_, _-_, _*_, _≤_, _<_, min}
 use native.Mathlib.Omega.{arith}
 use native.Mathlib.Numerals.{add-one}
 use lib.ListN.{length, take, drop, getD, length-append, length-drop, take-append-drop}
-use lib.Seq.{take-all, take-suc, take-append-seam, drop-append-seam, drop-drop, length-take-le}
+use lib.Seq.{take-suc, take-append-seam, drop-append-seam, drop-drop, length-take-le}
 use lib.Dec.{eqb, ltb, leb}
 use borrow.Author.Tests.{le-ltb, lt-ltb, ltb-true, ltb-false, le-leb, lt-leb, leb-true, eqb-true, ne-eqb}
 use Rattle.base.specs.Lists.{joinAll, orElse, isSome, All}
@@ -28,7 +28,7 @@ use Rattle.model.specs.Invariant.{EntryFits, SnapshotFits, Valid}
 use Rattle.model.specs.Snapshot.{Snapshot, saveEntry, saved, reads, consTo, loadEntries, holdsOwn, load}
 use Rattle.base.proofs.Options.{nothing, cond-yes, cond-no, or-else-some}
 use Rattle.base.proofs.Lists.{map-append, join-append, all-take}
-use Rattle.base.proofs.Written.{written-more, written-five}
+use Rattle.base.proofs.Written.{written-five}
 use Rattle.model.specs.Theorems.{capped, Snapshots}
 
 -- ---- a number is read, and what is made of it
@@ -295,15 +295,6 @@ module _ (clock : ℕ) (s : List ℕ) where
   unfolding afterCount
   count-none own n h = rw (lt-leb 1 n h)
 
-  -- the entries do not load, our own is not among them, or all is fine
-  pub count-bad : (own n : ℕ) → loadEntries clock n 0 s ≡ none → afterCount clock own n s ≡ none
-  unfolding afterCount
-  count-bad own n e = by-test (leb 1 n) (λ b. rw (b, e)) (λ b. rw b)
-
-  pub count-foreign : (own n : ℕ) (t : List Entry) → loadEntries clock n 0 s ≡ some t → isSome (look own t) ≡ false → afterCount clock own n s ≡ none
-  unfolding afterCount
-  count-foreign own n t e h = by-test (leb 1 n) (λ b. rw (b, e, h)) (λ b. rw b)
-
   pub count-fine : (own n : ℕ) (t : List Entry) → 1 ≤ n → loadEntries clock n 0 s ≡ some t → isSome (look own t) ≡ true
       → afterCount clock own n s ≡ some (record { own = own; entries = t })
   unfolding afterCount
@@ -346,20 +337,6 @@ module _ (d : List ℕ) (at clock : ℕ) (e : Entry) (d1 d2 d3 d4 d5 : List ℕ)
   entry-put =
       written-five d at (groups (idOf e)) (groups (e .says .seq)) (groups (min (ageAt clock e) mostAge)) (groups (length (e .says .nodeData))) (e .says .nodeData)
       d1 d2 d3 d4 d5 a1 a2 a3 a4 e1 q1 e2 q2 e3 q3 e4 q4 e5 fits
-
--- what is written so far, with one more entry behind it, and with all of them
-module _ (own clock : ℕ) (t : List Entry) (d : List ℕ) where
-  pub save-next : (i : ℕ) (e : Entry) (at : ℕ) (d1 d2 : List ℕ) → i < length t → d1 ≡ written d 0 (savedHead own (length t) ++ savedEntries clock (take i t))
-      → at ≡ length (savedHead own (length t) ++ savedEntries clock (take i t)) → d2 ≡ written d1 at (saveEntry clock (getD t i e)) → at + length (saveEntry clock (getD t i e)) ≤ length d
-      → d2 ≡ written d 0 (savedHead own (length t) ++ savedEntries clock (take (i + 1) t))
-  save-next i e at d1 d2 h p q r f =
-      written-more d 0 (savedHead own (length t) ++ savedEntries clock (take i t)) (saveEntry clock (getD t i e)) d1 d2 at p (omega arith) r f
-      ∙ ap (written d 0)
-      (append-assoc (savedHead own (length t)) (savedEntries clock (take i t)) (saveEntry clock (getD t i e))
-      ∙ ap (λ (x : List ℕ). savedHead own (length t) ++ x) (sym (entries-next clock t i e h)))
-
-  pub save-end : (i : ℕ) → length t ≤ i → savedHead own (length t) ++ savedEntries clock (take i t) ≡ saved own clock t
-  save-end i h = rw (take-all i t h) (sym (saved-is own clock t))
 
 -- bytes of an entry, and of the numbers before the entries, at most
 abbrev pub entryBytes : ℕ

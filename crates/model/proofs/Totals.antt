@@ -5,9 +5,7 @@ use mathlib.Core.List.{List, [], _∷_, _++_, map, append-nil}
 use mathlib.Core.Option.{none, some}
 use Prim.Native.Nat.{ℕ, zero, suc, _+_, _*_, _/_, _-_, _^_, _≤_, _<_}
 use native.Mathlib.Omega.{arith}
-use native.Mathlib.Numerals.{add-one}
-use lib.ListN.{length, getD, take, drop, length-append, length-map, length-drop}
-use lib.Seq.{take-all, take-suc, length-take-le}
+use lib.ListN.{length, take, drop, length-append, length-map, length-drop}
 use lib.Dec.{eqb}
 use lib.IntN.{ℤ, pos, _+ℤ_, +ℤ-idl, +ℤ-idr, +ℤ-assoc}
 use lib.Signed.{mag}
@@ -26,23 +24,19 @@ use Rattle.wire.proofs.Good.{row-joined, good-fits, good-row, tlvs-few}
 use Rattle.wire.proofs.Encoded.{payment-whole, payment-type, payment-read}
 use Rattle.wire.proofs.Payments.{read-payable, amountLimit, payable-mag, mag-step, mag-sum}
 use Rattle.model.specs.Figures.{mostNodes, dataLimit}
-use Rattle.model.specs.Table.{Entry, Statement, idOf, statements}
-use Rattle.model.specs.Reach.{inReach, reached}
+use Rattle.model.specs.Table.{Entry, Statement, statements}
+use Rattle.model.specs.Reach.{reached}
 use Rattle.model.specs.State.{State}
 use Rattle.model.specs.Invariant.{EntryFits, Valid}
 use Rattle.model.specs.Totals.{isPayment, paymentsIn, readable, unreadable, amounts, totalOf, sumOf, reachable, total, sum}
 use Rattle.base.proofs.Options.{by-option}
-use Rattle.base.proofs.Lists.{map-append, join-append, keep-append, all-keep, all-more, all-take, keep-few, map-same}
+use Rattle.base.proofs.Lists.{map-append, join-append, keep-append, all-keep, all-more, keep-few, map-same}
 use Rattle.model.specs.Theorems.{upFrom, amountFor, unreadableOne, sumℕ, TotalsAddUp}
 
 -- ---- the payment TLVs, node by node and TLV by TLV
 
 abbrev pub paymentsOf : List ℕ → List (List ℕ)
 paymentsOf d = keep isPayment (tlvs d)
-
-pub payments-cons : (s : Statement) (ss : List Statement) → paymentsIn (s ∷ ss) ≡ paymentsOf (s .nodeData) ++ paymentsIn ss
-unfolding paymentsIn
-payments-cons s ss = refl
 
 pub payments-append : (ss us : List Statement) → paymentsIn (ss ++ us) ≡ paymentsIn ss ++ paymentsIn us
 unfolding paymentsIn
@@ -155,10 +149,6 @@ module _ (f : Payment → Bool) where
       ∙ ap (λ (ps : List Payment). sumℤ (amounts ps)) (keep-append f (readable ts) (readable us))
       ∙ ap sumℤ (map-append (λ (p : Payment). p .amount) a b) ∙ sum-append (amounts a) (amounts b)
 
-  -- node by node
-  pub tally-cons : (s : Statement) (ss : List Statement) → tally f (paymentsIn (s ∷ ss)) ≡ tally f (paymentsOf (s .nodeData)) +ℤ tally f (paymentsIn ss)
-  tally-cons s ss = ap (tally f) (payments-cons s ss) ∙ tally-append (paymentsOf (s .nodeData)) (paymentsIn ss)
-
   pub tally-nodes : (ss us : List Statement) → tally f (paymentsIn (ss ++ us)) ≡ tally f (paymentsIn ss) +ℤ tally f (paymentsIn us)
   tally-nodes ss us = ap (tally f) (payments-append ss us) ∙ tally-append (paymentsIn ss) (paymentsIn us)
 
@@ -174,9 +164,6 @@ module _ (h : ℕ) where
   unfolding totalOf tally
   total-is ss = refl
 
-  pub total-cons : (s : Statement) (ss : List Statement) → totalOf h (s ∷ ss) ≡ tally (ofHousehold h) (paymentsOf (s .nodeData)) +ℤ totalOf h ss
-  total-cons s ss = rw (total-is (s ∷ ss), total-is ss) (tally-cons (ofHousehold h) s ss)
-
   pub total-nodes : (ss us : List Statement) → totalOf h (ss ++ us) ≡ totalOf h ss +ℤ totalOf h us
   total-nodes ss us = rw (total-is (ss ++ us), total-is ss, total-is us) (tally-nodes (ofHousehold h) ss us)
 
@@ -187,12 +174,6 @@ keep-any (p ∷ ps) = rw (keep-any ps)
 pub sum-is : (ss : List Statement) → sumOf ss ≡ tally anyPayment (paymentsIn ss)
 unfolding sumOf tally
 sum-is ss = rw (keep-any (readable (paymentsIn ss)))
-
-pub sum-cons : (s : Statement) (ss : List Statement) → sumOf (s ∷ ss) ≡ tally anyPayment (paymentsOf (s .nodeData)) +ℤ sumOf ss
-sum-cons s ss = rw (sum-is (s ∷ ss), sum-is ss) (tally-cons anyPayment s ss)
-
-pub sum-nodes : (ss us : List Statement) → sumOf (ss ++ us) ≡ sumOf ss +ℤ sumOf us
-sum-nodes ss us = rw (sum-is (ss ++ us), sum-is ss, sum-is us) (tally-nodes anyPayment ss us)
 
 -- a node that publishes one payment and no more: that amount is its household's total, and nothing is another's
 module _ (p : Payment) (k : Payable p) (s : Statement) (e : s .nodeData ≡ paymentTlv p) where
@@ -298,38 +279,6 @@ payments-good (e ∷ t) h =
 
 pub payments-room : (last : ℕ) (t : List Entry) → All (EntryFits last) t → length (paymentsIn (statements t)) ≤ mostTlvs * length t
 payments-room last t h = payments-good t (all-more (EntryFits last) (λ e. good dataLimit (e .says .nodeData) ≡ true) (λ e f. f .fine) t h)
-
--- a loop over the entries t, of which m tells the reachable ones: the payments of the first i
-abbrev pub soFar : (Entry → Bool) → List Entry → ℕ → List (List ℕ)
-soFar m t i = paymentsIn (statements (keep m (take i t)))
-
-module _ (m : Entry → Bool) (t : List Entry) (i : ℕ) where
-  pub so-far-all : length t ≤ i → soFar m t i ≡ paymentsIn (statements (keep m t))
-  so-far-all l = rw (take-all i t l)
-
-  pub so-far-few : (last : ℕ) → All (EntryFits last) t → i ≤ length t → length (soFar m t i) ≤ mostTlvs * i
-  so-far-few last h l =
-      omega (arith, payments-room last (keep m (take i t)) (all-keep (EntryFits last) m (take i t) (all-take (EntryFits last) i t h)), keep-few m (take i t), length-take-le i t l)
-
-  module _ (e : Entry) (l : i < length t) where
-    one-more : keep m (take (i + 1) t) ≡ keep m (take i t) ++ keep m (getD t i e ∷ [])
-    one-more = rw (add-one, take-suc t i e l) (keep-append m (take i t) (getD t i e ∷ []))
-
-    pub so-far-out : m (getD t i e) ≡ false → soFar m t (i + 1) ≡ soFar m t i
-    so-far-out b = rw (one-more, b, append-nil (keep m (take i t)))
-
-    pub so-far-in : m (getD t i e) ≡ true → soFar m t (i + 1) ≡ soFar m t i ++ paymentsOf (getD t i e .says .nodeData)
-    unfolding paymentsIn
-    so-far-in b =
-        let x : Entry = getD t i e in
-        ap (λ (u : List Entry). paymentsIn (statements u)) (rw b at one-more)
-        ∙ ap paymentsIn (map-append (λ (y : Entry). y .says) (keep m (take i t)) (x ∷ []))
-        ∙ payments-append (statements (keep m (take i t))) (x .says ∷ [])
-        ∙ ap (λ (u : List (List ℕ)). soFar m t i ++ u) (append-nil (paymentsOf (x .says .nodeData)))
-
-pub so-far-reached : (own clock : ℕ) (t : List Entry) (i : ℕ) → length t ≤ i → soFar (λ e. inReach own clock t (idOf e)) t i ≡ paymentsIn (statements (reached own clock t))
-unfolding reached
-so-far-reached own clock t i l = so-far-all (λ e. inReach own clock t (idOf e)) t i l
 
 pub reached-fit : (own clock last : ℕ) (t : List Entry) → All (EntryFits last) t → All (EntryFits last) (reached own clock t)
 unfolding reached

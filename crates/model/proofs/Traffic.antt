@@ -31,7 +31,7 @@ use Rattle.model.proofs.OneCall.{seen, accepted-seen, refused-same, one
 use Rattle.model.proofs.KeptReceive.{receive-own}
 use Rattle.model.proofs.KeptTick.{tick-own}
 use Rattle.model.proofs.KeptCalls.{pay-own}
-use Rattle.model.proofs.Others.{apart, theirs, apart-not, apart-absorb, Outcome, outcome, after-sorted, Aside, one-aside, tick-aside, pay-aside}
+use Rattle.model.proofs.Aside.{apart, theirs, apart-not, apart-absorb, Outcome, outcome, after-sorted, Aside, one-aside, tick-aside, pay-aside}
 
 -- ---- a TLV about another node
 

@@ -1,25 +1,25 @@
 -- Steps on the state: from what the parts ensure to the state of the model after the step. Assumes nothing.
 use mathlib.Core.Path.{_≡_, refl, sym, ap, _∙_, subst}
-use mathlib.Core.Bool.{Bool, true}
+use mathlib.Core.Bool.{Bool}
 use mathlib.Core.List.{List}
 use Prim.Native.Nat.{ℕ, pred, _≤_}
 use native.Mathlib.Omega.{arith}
 use lib.ListN.{length, drop, set, length-drop}
-use Rattle.base.specs.Lists.{joinAll, isSome, keepBy}
+use Rattle.base.specs.Lists.{joinAll, keepBy}
 use Rattle.base.specs.Memory.{spliced, cut}
 use Rattle.wire.specs.Row.{tlvs}
 use Rattle.wire.specs.Order.{place}
 use Rattle.model.specs.Figures.{tableBytes}
-use Rattle.model.specs.Table.{Entry, entryOf, look, put}
-use Rattle.model.specs.State.{State as ModelState, Peer as ModelPeer, Endpoint as ModelEndpoint, withTable, withPeers, withEndpoints, withEndpoint, ownData, publishAs, withTlv}
+use Rattle.model.specs.Table.{Entry, entryOf, put}
+use Rattle.model.specs.State.{State as ModelState, Peer as ModelPeer, withTable, withPeers, withEndpoint, ownData, publishAs, withTlv}
 use Rattle.table.specs.View.{view, dataOf, metaAt, Kept, Stands, Stored, Renumbered, Purged, Wrote}
 use Rattle.table.specs.declared.Table.{Table}
 use Rattle.table.proofs.Laying.{stays-self, kept-wrote, stored-wrote}
-use Rattle.node.specs.View.{endpointOf, endpointsOf, peersOf, stateOf, PeersRep, Rep, Held, Moved, Published}
+use Rattle.node.specs.View.{endpointOf, peersOf, stateOf, PeersRep, Rep, Moved, Published}
 use Rattle.node.specs.declared.State.{State}
 use Rattle.node.specs.declared.Endpoint.{Endpoint}
 use Rattle.node.specs.declared.peers.Peers.{Peers}
-use Rattle.node.proofs.Parts.{state-own, state-table, state-held, putTable, putPeers, putEndpoints, table-put, peers-put, endpoints-put, endpoint-put, endpoint-rep}
+use Rattle.node.proofs.Parts.{state-own, state-table, putTable, putPeers, putEndpoints, table-put, peers-put, endpoint-put, endpoint-rep}
 use Rattle.node.proofs.Own.{own-data}
 
 -- ---- one step, and the next
@@ -33,9 +33,6 @@ module _ {a : ModelState} {m : List ℕ} {r : State} {m′ : List ℕ} (h : Move
 
   pub moved-then : (f : ModelState → ModelState) {q : State} {m″ : List ℕ} → Moved (f (stateOf r m′)) m′ q m″ → Moved (f a) m q m″
   moved-then f k = record { rep = k .rep; is = k .is ∙ ap f (h .is); size = k .size ∙ h .size; beyond = k .beyond ∙ h .beyond }
-
-  pub moved-held : isSome (look (a .own) (a .table)) ≡ true → Held r m′
-  moved-held p = state-held r m′ (subst (λ (x : ModelState). isSome (look (x .own) (x .table)) ≡ true) (sym (h .is)) p)
 
 pub published-not : (s : State) (m : List ℕ) → Rep s m → Published (stateOf s m) s m s m
 published-not s m k = record { moved = moved-not s m k; wrote = kept-wrote (s .table) (s .table) m (stays-self (s .table)) (k .table) }
@@ -73,15 +70,6 @@ module _ (s : State) (m : List ℕ) (k : Rep s m) where
       record {
         rep = record { table = k .table; peers = g; four = k .four; digest = k .digest };
         is = peers-put s m p ∙ ap (λ (z : List ModelPeer). withPeers z (stateOf s m)) v;
-        size = refl;
-        beyond = refl;
-      }
-
-  pub endpoints-moved : (l : List Endpoint) (es : List ModelEndpoint) → length l ≡ 4 → endpointsOf l ≡ es → Moved (withEndpoints es (stateOf s m)) m (putEndpoints l s) m
-  endpoints-moved l es g v =
-      record {
-        rep = record { table = k .table; peers = k .peers; four = g; digest = k .digest };
-        is = endpoints-put s m l ∙ ap (λ (z : List ModelEndpoint). withEndpoints z (stateOf s m)) v;
         size = refl;
         beyond = refl;
       }

@@ -33,10 +33,6 @@ module _ (s : State) (m : List ℕ) where
   unfolding stateOf
   state-peers = refl
 
-  pub state-endpoints : stateOf s m .endpoints ≡ endpointsOf (s .endpoints)
-  unfolding stateOf
-  state-endpoints = refl
-
   pub state-digest : stateOf s m .digest ≡ s .digest
   unfolding stateOf
   state-digest = refl
@@ -79,10 +75,6 @@ module _ (s : State) (m : List ℕ) where
   pub peers-put : (p : Peers) → stateOf (putPeers p s) m ≡ withPeers (peersOf p) (stateOf s m)
   unfolding stateOf
   peers-put p = refl
-
-  pub endpoints-put : (es : List Endpoint) → stateOf (putEndpoints es s) m ≡ withEndpoints (endpointsOf es) (stateOf s m)
-  unfolding stateOf
-  endpoints-put es = refl
 
   pub endpoint-put : (n i : ℕ) (e : Endpoint) → pred n ≡ i → stateOf (putEndpoints (set (s .endpoints) i e) s) m ≡ withEndpoint n (endpointOf e) (stateOf s m)
   unfolding stateOf

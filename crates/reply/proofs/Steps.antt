@@ -27,7 +27,7 @@ use Rattle.node.specs.View.{stateOf, Rep, Moved, Published}
 use Rattle.reply.specs.declared.Context.{Context}
 use Rattle.reply.specs.declared.Sender.{Sender}
 use Rattle.reply.specs.declared.Work.{Work}
-use Rattle.reply.specs.View.{contextOf, senderOf, workOf, Sound, Ready, Stepped, Markable, Refreshed}
+use Rattle.reply.specs.View.{contextOf, workOf, Sound, Ready, Stepped, Markable, Refreshed}
 
 -- ---- the model's work by its parts
 
@@ -43,10 +43,6 @@ module _ (w : Work) (m r : List ℕ) where
   pub work-table : workOf w m r .state .table ≡ view (w .state .table) m
   unfolding workOf stateOf
   work-table = refl
-
-  pub work-sender : workOf w m r .sender ≡ senderOf (w .sender)
-  unfolding workOf
-  work-sender = refl
 
   pub work-known : w .sender .known ≡ true → workOf w m r .sender ≡ some (record { node = w .sender .node; endpoint = w .sender .endpoint })
   unfolding workOf
@@ -214,10 +210,6 @@ module _ {c : Context} {w : Work} {m r : List ℕ} where
     pub ready-next : Ready c w m r → Midway (c .clock) (f (workOf w m r) .state) → v .omitted ≤ 1000000 → v .dropped ≤ 1000000 → Ready c v m′ r′
     ready-next g i p q =
         record { sound = h .sound; midway = rw stepped-state i; clock = g .clock; first = g .first; fourth = g .fourth; omitted = p; dropped = q }
-
-    -- the same where the step leaves the state alone
-    pub ready-still : Ready c w m r → f (workOf w m r) .state ≡ workOf w m r .state → v .omitted ≤ 1000000 → v .dropped ≤ 1000000 → Ready c v m′ r′
-    ready-still g e p q = ready-next g (rw (e, work-state w m r) (g .midway)) p q
 
 -- one step after another that left the memory alone
 pub stepped-then : {c : Context} {w : Work} {m r : List ℕ} {k : ℕ} {f : ModelWork → ModelWork} {v : Work} {r′ : List ℕ} → Stepped c k f w m r v m r′

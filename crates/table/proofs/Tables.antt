@@ -490,16 +490,6 @@ pub cond-most : (b : Bool) (j i : ℕ) → j ≤ i → cond b (j + 1) j ≤ i + 
 cond-most true j i p = omega arith
 cond-most false j i p = omega arith
 
--- marks by place are a test
-pub keep-by-test : (p : Entry → Bool) (d : Entry) (bs : List Bool) (l : List Entry) → length l ≤ length bs → ((i : ℕ) → i < length l → getD bs i false ≡ p (getD l i d)) → keepBy bs l ≡ keep p l
-keep-by-test p d [] [] n f = refl
-keep-by-test p d [] (e ∷ l) n f = absurd (not-suc-le-zero n)
-keep-by-test p d (b ∷ bs) [] n f = refl
-keep-by-test p d (b ∷ bs) (e ∷ l) n f =
-    let q : b ≡ p e = f 0 (suc-le-suc zero-le) in
-    let r : keepBy bs l ≡ keep p l = keep-by-test p d bs l (le-of-suc-le-suc n) (λ i k. f (suc i) (suc-le-suc k)) in
-    rw (q, r)
-
 pub keep-on : (bs : List Bool) (t : Table) (ns : List Meta) (i j k : ℕ) → i < length bs → Arranged t → i < t .count → j < length ns → k ≡ cond (getD bs i false) (j + 1) j
     → keepBy bs (live t) ≡ take j ns ++ keepBy (drop i bs) (drop i (live t)) → keepBy bs (live t) ≡ take k (set ns j (metaAt t i)) ++ keepBy (drop (i + 1) bs) (drop (i + 1) (live t))
 keep-on bs t ns i j k p w q r e h =

@@ -1,5 +1,5 @@
 -- Signed amounts folded into unsigned numbers. Assumes nothing.
-use Prim.Native.Nat.{ℕ, _+_, _*_, _/_, _%_, _≤_}
+use Prim.Native.Nat.{ℕ, _+_, _*_, _/_, _%_}
 use mathlib.Core.Path.{_≡_, sym, ap, _∙_}
 use mathlib.Core.Bool.{true, false}
 use native.Mathlib.Omega.{arith}
@@ -36,7 +36,3 @@ fold-unfold n =
     by-test (eqb (n % 2) 0)
     (λ e. let q : n % 2 ≡ 0 = eqb-true (n % 2) 0 e in rw (← unfold-even n q) (omega arith))
     (λ e. let q : n % 2 ≡ 0 → ⊥ = eqb-false (n % 2) 0 e in rw (← unfold-odd n q) (omega arith))
-
-pub folded-size : (x : ℤ) → folded x ≤ mag x * 2 + 1
-folded-size (pos n) = omega arith
-folded-size (negsuc n) = omega arith

@@ -12,10 +12,10 @@ use lib.Dec.{leb}
 use borrow.Author.Tests.{le-leb, lt-leb, leb-true}
 use Rattle.base.specs.Bytes.{Bytes, u16At, zeros, same}
 use Rattle.base.specs.Lists.{orElse, joinAll, keep, In}
-use Rattle.wire.specs.Row.{typeOf, lengthOf, padding, sizeOf, heads, consTo, row, isRow, tlvs}
+use Rattle.wire.specs.Row.{lengthOf, padding, sizeOf, heads, consTo, row, isRow, tlvs}
 use Rattle.wire.specs.Order.{before, climbs, ascending, good, place, among, without}
 use Rattle.wire.specs.declared.row.Header.{Header}
-use Rattle.wire.specs.Answers.{Tells, Stands}
+use Rattle.wire.specs.Answers.{Tells, TlvAt}
 use Rattle.base.proofs.Tests.{no-way, and-left, and-right, and-both, or-left, or-right, by-test}
 use Rattle.base.proofs.Bytes.{bytes-left, bytes-right}
 use Rattle.base.proofs.Lists.{drop-take}
@@ -101,10 +101,6 @@ module _ (t s : List ℕ) (w : Whole t) where
   pub length-of-append : lengthOf (t ++ s) ≡ lengthOf t
   unfolding lengthOf
   length-of-append = u16-append t s 2 whole-four
-
-  pub type-append : typeOf (t ++ s) ≡ typeOf t
-  unfolding typeOf
-  type-append = u16-append t s 0 (omega (arith, whole-four))
 
   pub size-append : sizeOf (t ++ s) ≡ length t
   unfolding sizeOf
@@ -262,10 +258,6 @@ module _ (d t : List ℕ) (at : ℕ) where
         (sym (append-assoc (take at d) (take (h .next - at) (drop at d)) (joinAll (place t (tlvs (drop (h .next) d)))))
         ∙ ap (λ (x : List ℕ). x ++ joinAll (place t (tlvs (drop (h .next) d)))) (sym (rw e at q)))
 
-    pub among-here : same t (take (h .next - at) (drop at d)) ≡ true → among t (tlvs (drop at d)) ≡ true
-    unfolding among
-    among-here b = rw (k .left, b)
-
     pub among-later : same t (take (h .next - at) (drop at d)) ≡ false → among t (tlvs (drop at d)) ≡ among t (tlvs (drop (h .next) d))
     unfolding among
     among-later b = rw (k .left, b)
@@ -366,7 +358,7 @@ module _ (d t : List ℕ) (at : ℕ) (h : Header) (k : Tells d at h) (a : ascend
 
   -- the TLV is found
   pub stands-here : same t (take (h .next - at) (drop at d)) ≡ true → isRow (drop at d) ≡ true → among t (tlvs d) ≡ among t (tlvs (drop at d))
-      → joinAll (without t (tlvs d)) ≡ take at d ++ joinAll (without t (tlvs (drop at d))) → Stands d t at
+      → joinAll (without t (tlvs d)) ≡ take at d ++ joinAll (without t (tlvs (drop at d))) → TlvAt d t at
   unfolding among
   stands-here b r n w =
       let o : at < h .next = k .onward in

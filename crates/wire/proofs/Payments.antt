@@ -23,7 +23,7 @@ use Rattle.base.proofs.Tests.{and-left, and-right, and-no, and-both, by-test}
 use Rattle.base.proofs.Options.{nothing, cond-yes, or-else-some}
 use Rattle.base.proofs.Signed.{mag-add}
 use Rattle.base.proofs.Bytes.{bytes-right}
-use Rattle.wire.proofs.Varints.{got, read-written, read-once, read-most, groups-length}
+use Rattle.wire.proofs.Varints.{got, read-written, read-once, read-most}
 use Rattle.wire.proofs.Folding.{unfold-fold, fold-unfold}
 use Rattle.base.proofs.Written.{written-three}
 
@@ -104,12 +104,6 @@ payment-back p k =
     ∙ third-on (p .household) (p .receipt) (groups (folded (p .amount))) (folded (p .amount)) [] (rw e at (read-written mostU32 (folded (p .amount)) [] (k .amount)))
     ∙ ended-well (p .household) (p .receipt) (folded (p .amount)) [] refl (k .low) (k .high) ∙ rw (unfold-fold (p .amount))
 
--- at most twelve bytes for a payment, fifteen for any three numbers below 2^35
-pub value-short : (p : Payment) → p .household < 34359738368 → p .receipt < 34359738368 → folded (p .amount) < 34359738368 → length (paymentValue p) ≤ 15
-unfolding paymentValue
-value-short p a b c =
-    omega (arith, length-append (groups (p .household)) (groups (p .receipt) ++ groups (folded (p .amount))), length-append (groups (p .receipt)) (groups (folded (p .amount))), groups-length 4 (p .household) a, groups-length 4 (p .receipt) b, groups-length 4 (folded (p .amount)) c)
-
 -- the code's three readings
 module _ (s : List ℕ) (g1 : Groups) (h a : ℕ) (e1 : asRead s g1 ≡ readGroups mostU32 s) (q1 : g1 ≡ Value h a) where
   pub one-read : readPayment s ≡ afterOne h (drop a s)
@@ -140,9 +134,6 @@ module _ (d : List ℕ) (at : ℕ) (p : Payment) (d1 d2 d3 : List ℕ) (a b e f 
       omega arith
 
 -- ---- in one way only
-
-some-once : (p q : Payment) → some p ≡ some q → p ≡ q
-some-once p q e = cc
 
 abbrev Spelt : List ℕ → Option Payment → Type 0
 Spelt v none = Unit {0}

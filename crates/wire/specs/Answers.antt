@@ -50,12 +50,12 @@ pub record Size (s : List ℕ) (r : ℕ) : Type 0 where
   pub within : r ≤ length s
 
 -- the TLV t stands at place p of the node data d, and d is without it once its bytes are cut out
-pub record Stands (d t : List ℕ) (p : ℕ) : Type 0 where
+pub record TlvAt (d t : List ℕ) (p : ℕ) : Type 0 where
   pub there : among t (tlvs d) ≡ true
   pub within : p + length t ≤ length d
   pub rest : cut d p (length t) ≡ joinAll (without t (tlvs d))
 
 -- where the code says that t stands in d
 abbrev pub Found : List ℕ → List ℕ → Standing → Type 0
-Found d t (At p) = Stands d t p
+Found d t (At p) = TlvAt d t p
 Found d t Nowhere = among t (tlvs d) ≡ false
