@@ -95,6 +95,14 @@ written-outside m d a n p q =
 pub same-outside : (m : List ℕ) (a n : ℕ) → Outside a n m m
 same-outside m a n = record { below = refl; above = refl }
 
+-- two parts that follow on each other stay: so does the part that they make
+pub parts-same : (m m′ : List ℕ) (a k n : ℕ) → k ≤ n → part m′ a k ≡ part m a k → part m′ (a + k) (n - k) ≡ part m (a + k) (n - k) → part m′ a n ≡ part m a n
+parts-same m m′ a k n l p q = both m′ ∙ ap (λ (x : List ℕ). x ++ part m′ (a + k) (n - k)) p ∙ ap (λ (x : List ℕ). part m a k ++ x) q ∙ sym (both m)
+  where
+    both : (z : List ℕ) → part z a n ≡ part z a k ++ part z (a + k) (n - k)
+    both z = let e : n ≡ k + (n - k) = omega arith in
+        ap (λ (i : ℕ). part z a i) e ∙ take-add k (n - k) (drop a z) ∙ ap (λ (y : List ℕ). part z a k ++ take (n - k) y) (drop-drop k a z)
+
 -- ---- for loops and parts
 
 pub put-written : (t d ys : List ℕ) (a k : ℕ) → ys ≡ d → k ≡ length d → putMid a k t ys ≡ written t a d

@@ -11,9 +11,12 @@ use borrow.Author.Tests.{eqb-true, eqb-false, not-false}
 use Rattle.base.specs.Lists.{isSome}
 use Rattle.base.specs.Memory.{part}
 use Rattle.base.proofs.Tests.{no-way, by-test}
+use Rattle.base.proofs.Lists.{all-in}
+use Rattle.base.proofs.Sorted.{find-some}
+use Rattle.base.proofs.Written.{parts-same}
 use Rattle.model.specs.Figures.{mostBytes, dataLimit, tableBytes}
 use Rattle.model.specs.Snapshot.{Snapshot, load}
-use Rattle.table.specs.View.{Arranged, Lays}
+use Rattle.table.specs.View.{metaId, live, FitMeta, Arranged, Lays}
 use Rattle.table.proofs.Laying.{lays-free, lays-behind}
 use Rattle.node.specs.declared.State.{State}
 use Rattle.ledger.specs.Calls.{PublicCall, Promised, stateAfter, memoryAfter, writtenBy}
@@ -105,4 +108,9 @@ memory-kept =
       behind = λ x s m h n k y e f low.
           ⊎-elim (λ o. ap (λ (z : List ℕ). part z (y .slot * dataLimit + k) (dataLimit - k)) o)
           (λ o. lays-behind (stateAfter x s .table) m (writtenBy x s m) (memoryAfter x m) (o .arranged) (o .room) (o .lays) n k y e f low) (outcome x s m h);
+      same = λ x s m h n y e d f.
+          ⊎-elim (λ o. ap (λ (z : List ℕ). part z (y .slot * dataLimit) dataLimit) o)
+          (λ o. let low : y .len ≤ dataLimit = all-in FitMeta y (live (stateAfter x s .table)) (o .arranged .fit) (find-some metaId n y (live (stateAfter x s .table)) e .0) .1 in
+          parts-same m (memoryAfter x m) (y .slot * dataLimit) (y .len) dataLimit low d
+          (lays-behind (stateAfter x s .table) m (writtenBy x s m) (memoryAfter x m) (o .arranged) (o .room) (o .lays) n (y .len) y e f low)) (outcome x s m h);
     }

@@ -25,7 +25,7 @@ use Rattle.model.specs.Theorems.{Chained, upFrom, Form, Exact}
 use Rattle.model.specs.Reach.{inReach}
 use Rattle.model.specs.Digest.{networkDigest}
 use Rattle.table.specs.declared.Entry.{Entry as Meta}
-use Rattle.table.specs.View.{live, view, Free, metaOf}
+use Rattle.table.specs.View.{live, view, dataOf, Free, metaOf}
 use Rattle.node.specs.View.{stateOf}
 use Rattle.node.specs.declared.State.{State}
 use Rattle.exchange.specs.Datagram.{callOf}
@@ -54,8 +54,8 @@ pub record NumbersExact : Type 0 where
 pub record RefusalsLeaveAll : Type 0 where
   pub refused : (x : PublicCall) (s : State) (m : List ℕ) → Promised x s m → ¬ (numberOf x s m ≡ 0) → (stateAfter x s ≡ s) × ((memoryAfter x m ≡ m) × RoomSame x)
 
--- "Bytes of a buffer beyond what is written stay", of the table memory: its length and the bytes past the table; every slot that no node has afterwards; and
--- of a node's slot what lies behind all data that the call wrote there.
+-- "Bytes of a buffer beyond what is written stay", of the table memory: its length and the bytes past the table; every slot that no node has afterwards; of
+-- a node's slot what lies behind all data that the call wrote there; and all of it where its data are as before and none longer came between.
 pub record MemoryKept : Type 0 where
   pub size : (x : PublicCall) (s : State) (m : List ℕ) → Promised x s m → length (memoryAfter x m) ≡ length m
   pub beyond : (x : PublicCall) (s : State) (m : List ℕ) → Promised x s m → drop tableBytes (memoryAfter x m) ≡ drop tableBytes m
@@ -64,6 +64,9 @@ pub record MemoryKept : Type 0 where
   pub behind : (x : PublicCall) (s : State) (m : List ℕ) → Promised x s m → (n k : ℕ) (y : Meta) → metaOf (stateAfter x s .table) n ≡ some y
       → ((e : Entry) → In e (writtenBy x s m) → idOf e ≡ n → length (e .says .nodeData) ≤ k) → k ≤ dataLimit
       → part (memoryAfter x m) (y .slot * dataLimit + k) (dataLimit - k) ≡ part m (y .slot * dataLimit + k) (dataLimit - k)
+  pub same : (x : PublicCall) (s : State) (m : List ℕ) → Promised x s m → (n : ℕ) (y : Meta) → metaOf (stateAfter x s .table) n ≡ some y
+      → dataOf (memoryAfter x m) y ≡ dataOf m y → ((e : Entry) → In e (writtenBy x s m) → idOf e ≡ n → length (e .says .nodeData) ≤ y .len)
+      → part (memoryAfter x m) (y .slot * dataLimit) dataLimit ≡ part m (y .slot * dataLimit) dataLimit
 
 -- ---- demand 2: "Only such boxes enter the network digest, a total or a Node State we send"
 
