@@ -1,8 +1,8 @@
 -- The number that a call answers, worked out test by test as the code does. Assumes nothing.
-use mathlib.Core.Path.{_≡_, sym, _∙_}
+use mathlib.Core.Path.{_≡_, refl, sym, _∙_}
 use mathlib.Core.Bool.{Bool, true, false, not, _&&_}
 use mathlib.Core.List.{List, [], _∷_, _++_}
-use Prim.Native.Nat.{ℕ, _≤_, _<_}
+use Prim.Native.Nat.{ℕ, _≤_, _<_, zero-le}
 use native.Mathlib.Omega.{arith}
 use lib.ListN.{length}
 use lib.Dec.{ltb, leb}
@@ -36,17 +36,11 @@ module _ (es bs : List Row) (n : ℕ) (is : n ≡ firstOf es) where
   pub goes-late : Numbered es → n ≡ 0 → (k : ℕ) → k ≡ firstOf bs → k ≡ firstOf (es ++ bs)
   goes-late f z k h = h ∙ sym (first-late es bs f (sym is ∙ z))
 
--- ---- the clock of a start, then the table memory
+-- ---- what begins goes on from reading 0, before which there is none
 
-module _ (clock table : ℕ) where
-  pub start-late : lastReading < clock → 1 ≡ firstOf (late clock ∷ smallTable table ∷ [])
-  start-late h = rw (lt-ltb lastReading clock h)
-
-  pub start-small : clock ≤ lastReading → table < tableBytes → 4 ≡ firstOf (late clock ∷ smallTable table ∷ [])
-  start-small p h = rw (le-ltb lastReading clock p, lt-ltb table tableBytes h)
-
-  pub start-fine : clock ≤ lastReading → tableBytes ≤ table → 0 ≡ firstOf (late clock ∷ smallTable table ∷ [])
-  start-fine p h = rw (le-ltb lastReading clock p, le-ltb table tableBytes h)
+pub from-zero : (clock table n : ℕ) → ((s : ModelState) → s .last ≡ 0 → n ≡ firstOf (late clock ∷ back clock s ∷ smallTable table ∷ []))
+    → n ≡ firstOf (late clock ∷ smallTable table ∷ [])
+from-zero clock table n h = rw (le-ltb clock 0 zero-le) at (h (record { own = 0; last = 0; table = []; peers = []; endpoints = []; digest = [] }) refl)
 
 -- ---- the clock of a call that goes on from a state
 

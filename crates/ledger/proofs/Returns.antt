@@ -5,6 +5,7 @@ use mathlib.Core.Option.{Option, some}
 use Prim.Native.Nat.{ℕ, _≤_}
 use native.Mathlib.Omega.{arith}
 use lib.ListN.{length, take}
+use borrow.Author.Tests.{le-ltb}
 use Rattle.base.specs.Lists.{orElse}
 use Rattle.model.specs.Figures.{tableBytes, lastReading, snapshotBytes}
 use Rattle.model.specs.Refusals.{firstOf, late, smallTable}
@@ -22,7 +23,7 @@ use Rattle.ledger.specs.Promises.{AsLeft, Resumes, Saves}
 use Rattle.ledger.specs.Returning.{bookOf, SavedComesBack}
 use Rattle.ledger.proofs.Left.{room-accepted}
 use Rattle.ledger.proofs.Answering.{as-accepted}
-use Rattle.ledger.proofs.Numbers.{start-fine, goes-late}
+use Rattle.ledger.proofs.Numbers.{goes-late}
 
 -- ---- saved
 
@@ -45,11 +46,14 @@ module _ (clock : ℕ) (s : State) (m q : List ℕ) (r : Saved) (q′ : List ℕ
 -- ---- resumed
 
 module _ (later : ℕ) (bytes rs : List ℕ) (table : ℕ) (v : ModelState) (b : Snapshot) (fine : later ≤ lastReading) (room : tableBytes ≤ table) (e : load later bytes ≡ some b) where
+  begun : 0 ≡ firstOf (late later ∷ smallTable table ∷ [])
+  begun = rw (le-ltb lastReading later fine, le-ltb table tableBytes room)
+
   read : 0 ≡ firstOf (noSnapshot later bytes ∷ [])
   read = rw e refl
 
   not-refused : 0 ≡ refusalResume later bytes table
-  not-refused = goes-late (late later ∷ smallTable table ∷ []) (noSnapshot later bytes ∷ []) 0 (start-fine later table fine room) (omega arith) refl 0 read
+  not-refused = goes-late (late later ∷ smallTable table ∷ []) (noSnapshot later bytes ∷ []) 0 begun (omega arith) refl 0 read
 
   resume-is : resume later bytes rs table v ≡ record { number = 0; state = resumed later rs b }
   unfolding resume

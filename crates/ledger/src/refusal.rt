@@ -6,17 +6,11 @@ ghost use Rattle.model.specs.Figures.{mostBytes, snapshotBytes};
 ghost use Rattle.model.specs.State.{State as ModelState};
 ghost use Rattle.model.specs.Refusals.{firstOf, late, back, noSuchEndpoint, smallTable, smallRoom, long, noRow, noHousehold};
 
-// 1 and 4: what begins.
+// 1 and 4: what begins has no reading before it.
 pub fn of_start(clock: u64, table: usize) -> u32
     ensures { λ r. ⌜ r ≡ firstOf (late clock ∷ smallTable table ∷ []) ⌝ }
 {
-    if 4611686018427387903 < clock {
-        return 1;
-    }
-    if table < 32768 {
-        return 4;
-    }
-    0
+    of_table(0, clock, table)
 }
 
 // 1, 2 and 4: the clock, and the table memory.
