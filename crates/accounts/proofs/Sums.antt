@@ -20,7 +20,7 @@ use Rattle.base.proofs.Lists.{map-append, all-keep-by, all-take}
 use Rattle.base.proofs.Marks.{keep-by-nil, keep-by-length, keep-by-in, keep-by-out}
 use Rattle.base.proofs.Signed.{narrow-back, wide-back, wide-fits}
 use Rattle.wire.specs.Order.{good}
-use Rattle.wire.specs.Payment.{Payment, readPayment}
+use Rattle.wire.specs.Payment.{Payment, amountLimit, readPayment}
 use Rattle.wire.specs.Answers.{Tells, asPayment}
 use Rattle.wire.specs.declared.row.Header.{Header}
 use Rattle.wire.specs.declared.payment.Paid.{Paid}
@@ -28,12 +28,12 @@ use Rattle.wire.specs.declared.payment.Paid.the-variants.{Readable, Unreadable}
 use Rattle.wire.proofs.Payments.{read-payable, payable-mag, mag-step}
 use Rattle.model.specs.Figures.{mostNodes, dataLimit}
 use Rattle.model.specs.Table.{Entry, Statement, statements}
-use Rattle.model.specs.Totals.{totalOf, sumOf, unreadable, paymentsIn}
-use Rattle.model.proofs.Totals.{paymentsOf, payments-append, payments-counted, payments-good, payments-node, unreadable-append, tally, tally-none, tally-append, tally-mag, ofHousehold, total-is, sum-is, Summing, summing-start, summing-end, summing-pass, summing-unreadable, summing-skip, summing-pick}
+use Rattle.model.specs.Totals.{totalOf, sumOf, unreadable, paymentsOf, paymentsIn}
+use Rattle.model.proofs.Totals.{payments-append, payments-counted, payments-good, payments-node, unreadable-append, tally, tally-none, tally-append, tally-mag, ofHousehold, total-is, sum-is, Summing, summing-start, summing-end, summing-pass, summing-unreadable, summing-skip, summing-pick}
 use Rattle.table.specs.declared.Table.{Table}
 use Rattle.table.specs.View.{blank, metaAt, dataOf, seen, view, Kept, AllGood}
 use Rattle.table.proofs.Tables.{view-length, view-at, view-each}
-use Rattle.accounts.specs.Tallied.{sumFor, Tallied, counted, addPaid, addTlv, Added, alone, amountLimit, mostPayments, Room}
+use Rattle.accounts.specs.Tallied.{sumFor, Tallied, counted, addPaid, addTlv, Added, alone, mostPayments, Room}
 use Rattle.accounts.specs.declared.totals.Whose.{Whose}
 use Rattle.accounts.specs.declared.totals.Total.{Total}
 
@@ -235,8 +235,8 @@ module _ (t : Table) (m : List ℕ) (k : Kept t m) where
   pub meta-says : (i : ℕ) → i < t .count → (d : List ℕ) → d ≡ dataOf m (metaAt t i) → d ≡ getD (view t m) i (seen m blank) .says .nodeData
   meta-says i p d e = e ∙ ap (λ (x : Entry). x .says .nodeData) (sym (view-at t (k .arranged) m i p))
 
-  pub row-good : AllGood (view t m) → (i : ℕ) → i < t .count → (d : List ℕ) → d ≡ dataOf m (metaAt t i) → good dataLimit d ≡ true
-  row-good g i p d e = rw e (view-each t (k .arranged) (λ x. good dataLimit (x .says .nodeData) ≡ true) m i g p)
+  pub meta-good : AllGood (view t m) → (i : ℕ) → i < t .count → (d : List ℕ) → d ≡ dataOf m (metaAt t i) → good dataLimit d ≡ true
+  meta-good g i p d e = rw e (view-each t (k .arranged) (λ x. good dataLimit (x .says .nodeData) ≡ true) m i g p)
 
   module _ (w : Whose) (marks : List Bool) (r : Total) (i : ℕ) (s : AddedBelow w marks (view t m) r i) where
     pub metas-room : AllGood (view t m) → i < t .count → Room mostPayments r

@@ -7,7 +7,7 @@ use Prim.Native.Nat.{ℕ, _+_, _*_, _/_, _≤_}
 use lib.Dec.{eqb}
 use lib.IntN.{ℤ, _+ℤ_}
 use lib.Signed.{mag}
-use Rattle.wire.specs.Payment.{Payment, readPayment}
+use Rattle.wire.specs.Payment.{Payment, amountLimit, readPayment}
 use Rattle.model.specs.Figures.{mostNodes, dataLimit}
 use Rattle.model.specs.Table.{Statement}
 use Rattle.model.specs.Totals.{totalOf, sumOf, unreadable, paymentsIn}
@@ -49,10 +49,6 @@ pub record Added (w : Whose) (ss : List Statement) (t r : Total) : Type 0 where
 -- the statement of a node that publishes d: its identifier and number do not matter
 abbrev pub alone : List ℕ → Statement
 alone d = record { node = 0; seq = 0; nodeData = d }
-
--- an amount has 31 bits and a sign
-abbrev pub amountLimit : ℕ
-amountLimit = 2147483648
 
 -- a TLV has 4 bytes at least, so that no more payments than these stand in a table
 abbrev pub mostPayments : ℕ

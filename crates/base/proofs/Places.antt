@@ -2,7 +2,7 @@
 use mathlib.Core.Path.{_≡_, refl, sym, ap, _∙_}
 use mathlib.Core.Bool.{cond}
 use mathlib.Core.List.{List, [], _∷_, _++_, map}
-use mathlib.Core.Option.{none, some}
+use mathlib.Core.Option.{some}
 use Prim.Native.Nat.{ℕ, zero, suc, _+_, _-_, _≤_, _<_, zero-le, suc-le-suc}
 use native.Mathlib.Nat.{not-suc-le-zero, le-of-suc-le-suc}
 use native.Mathlib.Omega.{arith}
@@ -30,12 +30,6 @@ module _ {A : Type 0} (key : A → ℕ) (d : A) where
   find-at n (x ∷ xs) (suc i) h l e =
       let k : key x < key (getD xs i d) = above-at (key x) xs i (h .0) (le-of-suc-le-suc l) in
       find-no key n x xs (omega arith) ∙ find-at n xs i (h .1) (le-of-suc-le-suc l) e
-
-  -- none of the places has it
-  pub find-nowhere : (n : ℕ) (xs : List A) → ((i : ℕ) → i < length xs → ¬ (key (getD xs i d) ≡ n)) → find key n xs ≡ none
-  unfolding find
-  find-nowhere n [] h = refl
-  find-nowhere n (x ∷ xs) h = find-no key n x xs (h 0 (suc-le-suc zero-le)) ∙ find-nowhere n xs (λ i l. h (suc i) (suc-le-suc l))
 
   -- over the element at place i, which has its key
   pub insert-over : (a : A) (xs : List A) (i : ℕ) → Ascending key xs → i < length xs → key (getD xs i d) ≡ key a → insert key a xs ≡ set xs i a

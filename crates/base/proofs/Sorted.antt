@@ -153,9 +153,6 @@ module _ {A : Type 0} (key : A → ℕ) where
 
   -- ---- two ascending lists that hold the same are the same; one that holds no more is no longer
 
-  Within : List A → List A → Type 0
-  Within xs ys = (a : A) → In a xs → In a ys
-
   heads : (x y : A) (xs ys : List A) → Above key (key x) xs → Above key (key y) ys → In x (y ∷ ys) → In y (x ∷ xs) → x ≡ y
   heads x y xs ys hx hy (inl e) n = e
   heads x y xs ys hx hy (inr m) (inl e) = sym e
@@ -312,13 +309,3 @@ pub insert-last : {A : Type 0} (key : A → ℕ) (a : A) (xs : List A) → All (
 unfolding insert
 insert-last key a [] h = refl
 insert-last key a (x ∷ xs) h = insert-gt key a x xs (h .0) ∙ ap (λ (r : List _). x ∷ r) (insert-last key a xs (h .1))
-
--- over an element with the same key, the second stays
-pub insert-twice : {A : Type 0} (key : A → ℕ) (a b : A) (xs : List A) → key a ≡ key b → insert key b (insert key a xs) ≡ insert key b xs
-unfolding insert
-insert-twice key a b [] e = insert-eq key b a [] (sym e)
-insert-twice key a b (x ∷ xs) e =
-    by-order (key a) (key x)
-    (λ l. rw (insert-lt key a x xs l, insert-eq key b a (x ∷ xs) (sym e), insert-lt key b x xs (omega arith)))
-    (λ q. rw (insert-eq key a x xs q, insert-eq key b a xs (sym e), insert-eq key b x xs (omega arith)))
-    (λ g. rw (insert-gt key a x xs g, insert-gt key b x (insert key a xs) (omega arith), insert-gt key b x xs (omega arith), insert-twice key a b xs e))

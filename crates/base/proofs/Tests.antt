@@ -45,9 +45,6 @@ or-yes a b e = rw e (sym (or-true a))
 pub or-no : (a b : Bool) → b ≡ false → a ≡ a || b
 or-no a b e = rw e (sym (or-false a))
 
-pub and-then : (a b : Bool) {c : Bool} → a ≡ true → c ≡ b → c ≡ a && b
-and-then a b e h = rw e h
-
 pub and-stop : (a b : Bool) → a ≡ false → false ≡ a && b
 and-stop a b e = rw e
 

@@ -31,6 +31,11 @@ abbrev pub orElse {ℓ κ} : {A : Type ℓ} {B : Type κ} → Option A → B →
 orElse none b f = b
 orElse (some a) b f = f a
 
+-- x before what may be missing
+abbrev pub consTo {ℓ} : {A : Type ℓ} → A → Option (List A) → Option (List A)
+consTo x none = none
+consTo x (some xs) = some (x ∷ xs)
+
 abbrev pub isSome {ℓ} : {A : Type ℓ} → Option A → Bool
 isSome none = false
 isSome (some a) = true

@@ -120,13 +120,13 @@ module _ (clock : ℕ) (t : List Entry) (r : Received) where
 
 -- ---- the code's decision, on a value v with these fields
 
-abbrev heard : ℕ → ℕ → ℕ → List ℕ → List ℕ → Received
-heard node seq age h d = record { node = node; seq = seq; age = age; hash = h; carried = carriedIn h d }
+abbrev fieldsOf : ℕ → ℕ → ℕ → List ℕ → List ℕ → Received
+fieldsOf node seq age h d = record { node = node; seq = seq; age = age; hash = h; carried = carriedIn h d }
 
 module _ (t : Table) (i node seq age : ℕ) (h d v : List ℕ) (k : Arranged t) (x : Fields v node seq age h d) where
-  heard-is : receivedOf v ≡ heard node seq age h d
+  fields-are : receivedOf v ≡ fieldsOf node seq age h d
   unfolding receivedOf
-  heard-is = rw (x .node-is, x .seq-is, x .age-is, x .hash-is, x .bytes-are)
+  fields-are = rw (x .node-is, x .seq-is, x .age-is, x .hash-is, x .bytes-are)
 
   -- what is taken is good and short, its digest the one received
   fine-taken : fine h d ≡ true → Fine v
@@ -135,25 +135,25 @@ module _ (t : Table) (i node seq age : ℕ) (h d v : List ℕ) (k : Arranged t) 
       (good-fits dataLimit d (and-left (good dataLimit d) (same (hash16 d) h) f), sym (same-is (hash16 d) h (and-right (good dataLimit d) (same (hash16 d) h) f)))
 
   decides : (r : Answer) → Acts t r → Taken t v r
-      → ((clock : ℕ) (m : List ℕ) → Kept t m → decide clock (view t m) (heard node seq age h d) ≡ decisionOf clock t m v r) → Decides t v r
-  decides r a b e = record { acts = a; taken = b; is = λ clock m g. sym (ap (decide clock (view t m)) heard-is ∙ e clock m g) }
+      → ((clock : ℕ) (m : List ℕ) → Kept t m → decide clock (view t m) (fieldsOf node seq age h d) ≡ decisionOf clock t m v r) → Decides t v r
+  decides r a b e = record { acts = a; taken = b; is = λ clock m g. sym (ap (decide clock (view t m)) fields-are ∙ e clock m g) }
 
   -- about a node held, its entry at place i
-  module _ (row : Meta) (s : Stands t node i) (o : Read t i row) where
-    held : (m : List ℕ) → look node (view t m) ≡ some (seen m row)
+  module _ (e₀ : Meta) (s : Stands t node i) (o : Read t i e₀) where
+    held : (m : List ℕ) → look node (view t m) ≡ some (seen m e₀)
     held m = look-stands t k node i m s ∙ ap (λ (e : Meta). some (seen m e)) (sym (o .same))
 
-    hashed : (m : List ℕ) → Kept t m → row .hash ≡ hash16 (dataOf m row)
+    hashed : (m : List ℕ) → Kept t m → e₀ .hash ≡ hash16 (dataOf m e₀)
     hashed m g = subst (λ (e : Meta). e .hash ≡ hash16 (dataOf m e)) (sym (o .same)) (meta-hashed t m i g (s .at))
 
     -- w tells whether it is wanted
     module _ (w : Bool)
-        (f : (m u : List ℕ) → row .hash ≡ hash16 (dataOf m row) → seq ≡ receivedOf u .seq → h ≡ receivedOf u .hash → w ≡ differs (seen m row) (receivedOf u)) where
-      differ : (m : List ℕ) → Kept t m → differs (seen m row) (heard node seq age h d) ≡ w
-      differ m g = rw (← heard-is) (sym (f m v (hashed m g) (rw heard-is) (rw heard-is)))
+        (f : (m u : List ℕ) → e₀ .hash ≡ hash16 (dataOf m e₀) → seq ≡ receivedOf u .seq → h ≡ receivedOf u .hash → w ≡ differs (seen m e₀) (receivedOf u)) where
+      differ : (m : List ℕ) → Kept t m → differs (seen m e₀) (fieldsOf node seq age h d) ≡ w
+      differ m g = rw (← fields-are) (sym (f m v (hashed m g) (rw fields-are) (rw fields-are)))
 
       pub unwanted : not w ≡ true → Decides t v Ignored
-      unwanted p = decides Ignored tt tt (λ clock m g. held-unwanted clock (view t m) (heard node seq age h d) (seen m row) (held m) (differ m g ∙ not-true w p))
+      unwanted p = decides Ignored tt tt (λ clock m g. held-unwanted clock (view t m) (fieldsOf node seq age h d) (seen m e₀) (held m) (differ m g ∙ not-true w p))
 
       -- b tells whether data are carried
       module _ (p : not w ≡ false) (b : Bool) (e : b ≡ isSome (carriedIn h d)) where
@@ -162,51 +162,51 @@ module _ (t : Table) (i node seq age : ℕ) (h d v : List ℕ) (k : Arranged t) 
           replaces c =
               decides (TakeAll i true node seq age) s (tt, fine-taken (sym z ∙ c))
               (λ clock m g. rw (← x .bytes-are)
-              (held-all clock (view t m) (heard node seq age h d) (seen m row) (held m) (differ m g ∙ not-false w p) d (carried-some h d (sym e ∙ q)) (sym z ∙ c)))
+              (held-all clock (view t m) (fieldsOf node seq age h d) (seen m e₀) (held m) (differ m g ∙ not-false w p) d (carried-some h d (sym e ∙ q)) (sym z ∙ c)))
 
           pub bad-held : y ≡ false → Decides t v Ignored
           bad-held c =
               decides Ignored tt tt
-              (λ clock m g. held-bad clock (view t m) (heard node seq age h d) (seen m row) (held m) (differ m g ∙ not-false w p) d (carried-some h d (sym e ∙ q)) (sym z ∙ c))
+              (λ clock m g. held-bad clock (view t m) (fieldsOf node seq age h d) (seen m e₀) (held m) (differ m g ∙ not-false w p) d (carried-some h d (sym e ∙ q)) (sym z ∙ c))
 
-        module _ (q : b ≡ false) (y : Bool) (z : y ≡ same (row .hash) h) where
-          equal : (m : List ℕ) → Kept t m → same (hash16 (dataOf m row)) h ≡ y
+        module _ (q : b ≡ false) (y : Bool) (z : y ≡ same (e₀ .hash) h) where
+          equal : (m : List ℕ) → Kept t m → same (hash16 (dataOf m e₀)) h ≡ y
           equal m g = rw (← hashed m g) (sym z)
 
           pub renumbers : y ≡ true → Decides t v (TakeNumber i node seq age)
           renumbers c =
               decides (TakeNumber i node seq age) s tt
               (λ clock m g. rw (← o .same)
-              (held-number clock (view t m) (heard node seq age h d) (seen m row) (held m) (differ m g ∙ not-false w p) (carried-none h d (sym e ∙ q)) (equal m g ∙ c)))
+              (held-number clock (view t m) (fieldsOf node seq age h d) (seen m e₀) (held m) (differ m g ∙ not-false w p) (carried-none h d (sym e ∙ q)) (equal m g ∙ c)))
 
           pub asks-held : y ≡ false → Decides t v (Ask node)
           asks-held c =
               decides (Ask node) tt tt
-              (λ clock m g. held-ask clock (view t m) (heard node seq age h d) (seen m row) (held m) (differ m g ∙ not-false w p) (carried-none h d (sym e ∙ q)) (equal m g ∙ c))
+              (λ clock m g. held-ask clock (view t m) (fieldsOf node seq age h d) (seen m e₀) (held m) (differ m g ∙ not-false w p) (carried-none h d (sym e ∙ q)) (equal m g ∙ c))
 
   -- about a node not held, which would stand at place i
   module _ (s : Gap t node i) where
     pub no-room : mostNodes ≤ t .count → Decides t v Dropped
-    no-room p = decides Dropped tt tt (λ clock m g. new-full clock (view t m) (heard node seq age h d) (look-gap t k node i m s) (rw (view-length t k m) p))
+    no-room p = decides Dropped tt tt (λ clock m g. new-full clock (view t m) (fieldsOf node seq age h d) (look-gap t k node i m s) (rw (view-length t k m) p))
 
     module _ (p : t .count < mostNodes) (b : Bool) (e : b ≡ isSome (carriedIn h d)) where
       pub asks-new : not b ≡ true → Decides t v (Ask node)
       asks-new q =
           decides (Ask node) tt tt
-          (λ clock m g. new-ask clock (view t m) (heard node seq age h d) (look-gap t k node i m s) (rw (view-length t k m) p) (carried-none h d (sym e ∙ not-true b q)))
+          (λ clock m g. new-ask clock (view t m) (fieldsOf node seq age h d) (look-gap t k node i m s) (rw (view-length t k m) p) (carried-none h d (sym e ∙ not-true b q)))
 
       module _ (q : not b ≡ false) (y : Bool) (z : y ≡ fine h d) where
         pub inserts : y ≡ true → Decides t v (TakeAll i false node seq age)
         inserts c =
             decides (TakeAll i false node seq age) s (p, fine-taken (sym z ∙ c))
             (λ clock m g. rw (← x .bytes-are)
-            (new-all clock (view t m) (heard node seq age h d) (look-gap t k node i m s) (rw (view-length t k m) p) d
+            (new-all clock (view t m) (fieldsOf node seq age h d) (look-gap t k node i m s) (rw (view-length t k m) p) d
             (carried-some h d (sym e ∙ not-false b q)) (sym z ∙ c)))
 
         pub bad-new : y ≡ false → Decides t v Ignored
         bad-new c =
             decides Ignored tt tt
-            (λ clock m g. new-bad clock (view t m) (heard node seq age h d) (look-gap t k node i m s) (rw (view-length t k m) p) d
+            (λ clock m g. new-bad clock (view t m) (fieldsOf node seq age h d) (look-gap t k node i m s) (rw (view-length t k m) p) d
             (carried-some h d (sym e ∙ not-false b q)) (sym z ∙ c))
 
 -- ---- the whole, from the fields that were read

@@ -10,11 +10,10 @@ use borrow.Author.Tests.{eq-eqb, ne-eqb, le-leb, lt-leb}
 use Rattle.base.specs.Lists.{any}
 use Rattle.base.specs.Bytes.{u32At}
 use Rattle.wire.specs.Row.{valueOf, tlvs}
-use Rattle.wire.specs.Answers.{Tells}
+use Rattle.wire.specs.Answers.{tlvOf, Tells}
 use Rattle.wire.specs.declared.row.Header.{Header}
 use Rattle.wire.proofs.Rows.{tlvs-end, value-length, value-first}
 use Rattle.model.specs.Receive.{aboutOther}
-use Rattle.reach.specs.Marks.{tlvOf}
 
 -- ---- one TLV
 

@@ -6,7 +6,7 @@ use Prim.Native.Nat.{ℕ, _+_, _≤_, _<_}
 use native.Mathlib.Omega.{arith}
 use lib.ListN.{length}
 use lib.Dec.{ltb, leb}
-use borrow.Author.Tests.{le-leb, lt-leb, le-ltb, lt-ltb, ltb-true, leb-true}
+use borrow.Author.Tests.{le-leb, lt-leb, le-ltb, lt-ltb, ltb-true, leb-true, not-false}
 use Rattle.base.specs.Lists.{any}
 use Rattle.base.proofs.Tests.{and-left, and-right, and-both, and-no, and-stop, no-not}
 use Rattle.model.specs.Figures.{mostPeers, dataLimit, peerBytes}
@@ -40,10 +40,6 @@ module _ (c : Context) (w : Work) (m r : List ℕ) (h : Sound (c .clock) w m r) 
       (touch-some (contextOf c) (workOf w m r) f (work-known w m r e)
       ∙ ap (λ (x : ModelState). withState (touchBy (contextOf c) f x) (workOf w m r)) (work-state w m r))
 
-yes-not : (b : Bool) → not b ≡ false → b ≡ true
-yes-not true e = refl
-yes-not false e = sym e
-
 -- ---- an unknown sender over unicast
 
 -- room for a peer, as the code asks
@@ -60,10 +56,10 @@ module _ (count n : ℕ) where
   -- and what it says
   module _ (b : Bool) (e : b ≡ ltb count mostPeers && leb (n + peerBytes) dataLimit) (t : not b ≡ false) where
     pub room-count : count < mostPeers
-    room-count = ltb-true count mostPeers (and-left (ltb count mostPeers) (leb (n + peerBytes) dataLimit) (sym e ∙ yes-not b t))
+    room-count = ltb-true count mostPeers (and-left (ltb count mostPeers) (leb (n + peerBytes) dataLimit) (sym e ∙ not-false b t))
 
     pub room-data : (z : ℕ) → n ≡ z → z + peerBytes ≤ dataLimit
-    room-data z q = rw (sym q) (leb-true (n + peerBytes) dataLimit (and-right (ltb count mostPeers) (leb (n + peerBytes) dataLimit) (sym e ∙ yes-not b t)))
+    room-data z q = rw (sym q) (leb-true (n + peerBytes) dataLimit (and-right (ltb count mostPeers) (leb (n + peerBytes) dataLimit) (sym e ∙ not-false b t)))
 
 module _ (c : Context) (w : Work) (m r : List ℕ) (h : Sound (c .clock) w m r) (f : ModelSender) where
   -- room for a peer, by the numbers that the code has

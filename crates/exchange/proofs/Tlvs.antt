@@ -1,16 +1,17 @@
 -- TLVs as steps: by the type, over unicast or multicast, and one after the other. Assumes nothing.
 use mathlib.Core.Path.{_≡_, refl, sym, ap, _∙_, subst}
-use mathlib.Core.Bool.{Bool, true, false, not}
+use mathlib.Core.Bool.{true, false, not}
 use mathlib.Core.List.{List, [], _++_, append-nil, append-assoc}
 use Prim.Native.Nat.{ℕ, _+_, _*_, _≤_, _<_}
 use native.Mathlib.Omega.{arith}
 use lib.ListN.{length, take, drop, length-drop}
+use borrow.Author.Tests.{not-false}
 use Rattle.base.specs.Bytes.{Bytes, u32At}
 use Rattle.base.proofs.Tests.{no-not}
 use Rattle.base.proofs.Lists.{drop-later}
 use Rattle.base.proofs.Bytes.{bytes-take, bytes-drop}
 use Rattle.wire.specs.Row.{typeOf, valueOf, isRow, tlvs}
-use Rattle.wire.specs.Answers.{Tells}
+use Rattle.wire.specs.Answers.{tlvOf, Tells}
 use Rattle.wire.specs.declared.row.Header.{Header}
 use Rattle.wire.proofs.Rows.{tlvs-end}
 use Rattle.model.specs.Figures.{mostBytes, tableBytes}
@@ -24,7 +25,6 @@ use Rattle.model.proofs.KeptSteps.{one-holds}
 use Rattle.model.proofs.KeptReceive.{steps-kept}
 use Rattle.table.specs.View.{view, Wrote}
 use Rattle.table.proofs.Laying.{wrote-none, wrote-then}
-use Rattle.reach.specs.Marks.{tlvOf}
 use Rattle.reply.specs.declared.Context.{Context}
 use Rattle.reply.specs.declared.Work.{Work}
 use Rattle.reply.specs.View.{contextOf, workOf, Ready, Stepped}
@@ -98,10 +98,6 @@ touch-view : {c : Context} {v : Work} {m r : List ℕ} {u : Work} {r′ : List �
 touch-view {c} {v} {m} {r} {u} {r′} n =
     sym (work-table u m r′) ∙ ap (λ (w : ModelWork). w .state .table) (n .is) ∙ ap (λ (p : ℕ × List Entry). p .1) (touch-seen (contextOf c) (workOf v m r)) ∙ work-table v m r
 
-yes-not : (b : Bool) → not b ≡ false → b ≡ true
-yes-not true e = refl
-yes-not false e = sym e
-
 module _ {c : Context} {w : Work} {m r : List ℕ} {kind : ℕ} {x : List ℕ} {v : Work} {m′ r′ : List ℕ} (s : Stepped c 33 (onTlv (contextOf c) kind x) w m r v m′ r′)
     (t : List ℕ) (p : typeOf t ≡ kind) (q : valueOf t ≡ x) where
   same-tlv : onTlv (contextOf c) (typeOf t) (valueOf t) (workOf w m r) ≡ onTlv (contextOf c) kind x (workOf w m r)
@@ -113,7 +109,7 @@ module _ {c : Context} {w : Work} {m r : List ℕ} {kind : ℕ} {x : List ℕ} {
   pub one-unicast : not (c .unicast) ≡ false → {u : Work} {r″ : List ℕ} → Stepped c 0 (touch (contextOf c)) v m′ r′ u m′ r″ → Stepped c 33 (oneTlv (contextOf c) t) w m r u m′ r″
   one-unicast e {u} {r″} n =
       stepped-to (stepped-last s n (touch-view n)) (oneTlv (contextOf c) t)
-      (sym (one-tlv-unicast (contextOf c) (workOf w m r) t (yes-not (c .unicast) e) ∙ ap (touch (contextOf c)) same-tlv))
+      (sym (one-tlv-unicast (contextOf c) (workOf w m r) t (not-false (c .unicast) e) ∙ ap (touch (contextOf c)) same-tlv))
 
 -- ---- the TLVs of a datagram one after the other
 

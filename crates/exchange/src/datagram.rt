@@ -17,14 +17,13 @@ ghost use Prim.Native.Nat.{_≤_};
 ghost use lib.ListN.{length};
 ghost use Rattle.base.specs.Lists.{any};
 ghost use Rattle.wire.specs.Row.{isRow, tlvs};
-ghost use Rattle.wire.specs.Answers.{Tells};
+ghost use Rattle.wire.specs.Answers.{tlvOf, Tells};
 ghost use Rattle.model.specs.Figures.{mostBytes, lastReading};
 ghost use Rattle.model.specs.Digest.{networkDigest};
 ghost use Rattle.model.specs.Receive.{aboutOther};
 ghost use Rattle.model.specs.Invariant.{Midway};
 ghost use Rattle.table.specs.View.{view};
 ghost use Rattle.node.specs.View.{stateOf, Rep};
-ghost use Rattle.reach.specs.Marks.{tlvOf};
 ghost use Rattle.reply.specs.View.{Ready, Markable};
 ghost use Rattle.exchange.specs.Datagram.{Ran, Handled};
 

@@ -1,22 +1,20 @@
 -- Demand 2 over the calls' promises: only nodes to which a chain leads are marked, summed or sent. Assumes nothing.
 use mathlib.Core.Path.{_≡_, refl, sym, ap, subst, _∙_}
 use mathlib.Core.Bool.{Bool, true, false, cond}
-use mathlib.Core.List.{List, [], _∷_, _++_, map, append-nil, append-assoc}
-use mathlib.Core.Option.{Option, some}
+use mathlib.Core.List.{List, [], _∷_, _++_, map, append-nil}
 use mathlib.Core.Logic.{_⊎_, inl, inr, ⊎-elim}
 use Prim.Native.Nat.{ℕ, pred, _≤_}
 use native.Mathlib.Omega.{arith}
 use lib.ListN.{length, getD, take, replicate}
-use Rattle.base.specs.Lists.{In, orElse, joinAll}
+use Rattle.base.specs.Lists.{In, joinAll}
 use Rattle.base.specs.Bytes.{big32}
 use Rattle.base.specs.Sorted.{Ascending}
-use Rattle.base.proofs.Lists.{in-append, join-append}
-use Rattle.wire.specs.Row.{typeOf, row, isRow, tlvs}
+use Rattle.wire.specs.Row.{typeOf, tlvs}
 use Rattle.wire.proofs.Encoded.{encode-type, encode-whole}
-use Rattle.wire.proofs.Good.{Wholes, tlvs-whole, wholes-append, tlvs-row}
+use Rattle.wire.proofs.Good.{Wholes, tlvs-row}
 use Rattle.model.specs.Table.{Entry, idOf, statements}
 use Rattle.model.specs.Reach.{inReach, reached}
-use Rattle.model.specs.Messages.{endpointTlv, networkTlv, shortState, wholeState}
+use Rattle.model.specs.Messages.{endpointTlv, networkTlv}
 use Rattle.model.specs.Digest.{networkDigest}
 use Rattle.model.specs.Show.{Marks as ModelMarks, refusalMarks, marks}
 use Rattle.model.specs.Totals.{Summed as ModelSummed, totalOf, sumOf, unreadable, paymentsIn}
@@ -26,10 +24,9 @@ use Rattle.model.specs.State.{State as ModelState, endpointAt, settle}
 use Rattle.model.specs.Begin.{Done as ModelDone}
 use Rattle.model.specs.Tick.{Sent as ModelSent, dropSilent, announcement, ticked, refusalTick, tick}
 use Rattle.model.specs.Pay.{purged, refusalPurge, purge}
-use Rattle.model.specs.Handle.{Context, Work, oneTlv, allTlvs}
-use Rattle.model.specs.Receive.{Call, Answer as ModelAnswer, contextOf, startOf, receive}
+use Rattle.model.specs.Handle.{Context, Work, oneTlv}
+use Rattle.model.specs.Receive.{Call, Answer as ModelAnswer, contextOf, startOf}
 use Rattle.model.specs.Theorems.{Chained}
-use Rattle.model.proofs.Cases.{all-tlvs-none, all-tlvs-next}
 use Rattle.model.proofs.Levels.{levels-are-chains}
 use Rattle.model.proofs.Served.{served}
 use Rattle.model.proofs.ReadBack.{states-read-back}
@@ -48,7 +45,7 @@ use Rattle.ledger.specs.declared.answers.Answer.{Answer}
 use Rattle.ledger.specs.declared.answers.Summed.{Summed}
 use Rattle.ledger.specs.declared.answers.Marked.{Marked}
 use Rattle.ledger.specs.Promises.{AsLeft, summedOf, marksOf, Receives, Ticks, Purges, Totals, SumsUp, Marks}
-use Rattle.ledger.specs.Demands.{Reachable, digestOver, SentOf, ToldOf, OnlyReachable}
+use Rattle.ledger.specs.Demands.{Reachable, digestOver, workAfter, Serves, OnlyReachable}
 use Rattle.ledger.proofs.Answering.{as-accepted}
 
 -- ---- the entries that count
@@ -66,75 +63,6 @@ reachable own clock t a =
     record {
       ascending = levels-are-chains .sorted own clock t a;
       exactly = λ e. (led own clock t e, λ l. levels-are-chains .entries own clock t e .1 (l .0, levels-are-chains .same own clock t (idOf e) .1 (l .1)));
-    }
-
--- ---- what a datagram's TLVs write
-
--- u is of an entry that counted when one of the TLVs ts, handled from w on, had its turn
-abbrev From : Context → List (List ℕ) → Work → List ℕ → Type 0
-From c ts w u =
-    (before : List (List ℕ)) × (t : List ℕ) × (later : List (List ℕ)) × (ts ≡ before ++ (t ∷ later)) × (e : Entry) ×
-    Led (allTlvs c before w .state .own) (c .clock) (allTlvs c before w .state .table) e × ((u ≡ shortState (c .clock) e) ⊎ (u ≡ wholeState (c .clock) e))
-
--- u has the digest at such a moment
-abbrev Telling : Context → List (List ℕ) → Work → List ℕ → Type 0
-Telling c ts w u =
-    (before : List (List ℕ)) × (t : List ℕ) × (later : List (List ℕ)) × (ts ≡ before ++ (t ∷ later))
-    × (u ≡ networkTlv (networkDigest (allTlvs c before w .state .own) (c .clock) (allTlvs c before w .state .table)))
-
-record Written (c : Context) (ts : List (List ℕ)) (w v : Work) : Type 0 where
-  us : List (List ℕ)
-  out : v .out ≡ w .out ++ joinAll us
-  whole : Wholes us
-  fair : (u : List ℕ) → In u us → typeOf u ≡ 5 → From c ts w u
-  told : (u : List ℕ) → In u us → typeOf u ≡ 4 → Telling c ts w u
-
-row-wholes : (us : List (List ℕ)) → row (joinAll us) ≡ some us → Wholes us
-unfolding tlvs isRow
-row-wholes us e =
-    let w : Wholes (tlvs (joinAll us)) = tlvs-whole (joinAll us) (ap (λ (o : Option (List (List ℕ))). orElse o false (λ (ts : List (List ℕ)). true)) e) in
-    rw e at w
-
--- a turn later
-from-next : (c : Context) (t : List ℕ) (ts : List (List ℕ)) (w : Work) (u : List ℕ) → From c ts (oneTlv c t w) u → From c (t ∷ ts) w u
-from-next c t ts w u f =
-    (t ∷ f .0, f .1, f .2, ap (λ (l : List (List ℕ)). t ∷ l) (f .3), f .4, rw (all-tlvs-next c w t (f .0)) (f .5), f .6)
-
--- at once
-from-here : (c : Context) (t : List ℕ) (ts : List (List ℕ)) (w : Work) (u : List ℕ) (e : Entry) → In e (reached (w .state .own) (c .clock) (w .state .table))
-    → (u ≡ shortState (c .clock) e) ⊎ (u ≡ wholeState (c .clock) e) → From c (t ∷ ts) w u
-from-here c t ts w u e i s =
-    ([], t, ts, refl, e, rw (all-tlvs-none c w) (led (w .state .own) (c .clock) (w .state .table) e i), s)
-
-tells-next : (c : Context) (t : List ℕ) (ts : List (List ℕ)) (w : Work) (u : List ℕ) → Telling c ts (oneTlv c t w) u → Telling c (t ∷ ts) w u
-tells-next c t ts w u f =
-    (t ∷ f .0, f .1, f .2, ap (λ (l : List (List ℕ)). t ∷ l) (f .3), rw (all-tlvs-next c w t (f .0)) (f .4))
-
-tells-here : (c : Context) (t : List ℕ) (ts : List (List ℕ)) (w : Work) (u : List ℕ) → u ≡ networkTlv (networkDigest (w .state .own) (c .clock) (w .state .table)) → Telling c (t ∷ ts) w u
-tells-here c t ts w u e = ([], t, ts, refl, rw (all-tlvs-none c w) e)
-
-all-written : (c : Context) (ts : List (List ℕ)) (w : Work) → Written c ts w (allTlvs c ts w)
-all-written c [] w =
-    record {
-      us = [];
-      out = ap (λ (v : Work). v .out) (all-tlvs-none c w) ∙ sym (append-nil (w .out));
-      whole = tt;
-      fair = λ u i. absurd i;
-      told = λ u i. absurd i;
-    }
-all-written c (t ∷ ts) w =
-    let o = served .only c t w in
-    let x : Written c ts (oneTlv c t w) (allTlvs c ts (oneTlv c t w)) = all-written c ts (oneTlv c t w) in
-    record {
-      us = o .0 ++ x .us;
-      out =
-          ap (λ (v : Work). v .out) (all-tlvs-next c w t ts) ∙ x .out ∙ ap (λ (l : List ℕ). l ++ joinAll (x .us)) (o .1)
-          ∙ append-assoc (w .out) (joinAll (o .0)) (joinAll (x .us)) ∙ ap (λ (l : List ℕ). w .out ++ l) (sym (join-append (o .0) (x .us)));
-      whole = wholes-append (o .0) (x .us) (row-wholes (o .0) (o .2)) (x .whole);
-      fair = λ u i five.
-          ⊎-elim (λ k. let f = o .3 u k five in from-here c t ts w u (f .0) (f .1) (f .2)) (λ k. from-next c t ts w u (x .fair u k five)) (in-append u (o .0) (x .us) i);
-      told = λ u i four.
-          ⊎-elim (λ k. tells-here c t ts w u (o .4 u k four)) (λ k. tells-next c t ts w u (x .told u k four)) (in-append u (o .0) (x .us) i);
     }
 
 -- ---- the calls
@@ -174,46 +102,40 @@ module _ (clock : ℕ) (s : State) (m : List ℕ) where
   total-counted household r h z =
       h ∙ totals-add-up .totals clock household (length m) (stateOf s m) (sym (ap (λ (x : ModelSummed). x .number) h ∙ refusals-exact .totals clock household (length m) (stateOf s m) .answered) ∙ z)
 
-abbrev calledWith : List ℕ → ℕ → ℕ → Bool → List ℕ → List ℕ → List ℕ → Call
-calledWith datagram clock endpoint unicast randoms m q = callOf datagram clock endpoint unicast randoms (length m) (length q)
+-- ---- a datagram
 
-module _ (datagram : List ℕ) (clock endpoint : ℕ) (unicast : Bool) (randoms : List ℕ) (s : State) (m q : List ℕ) (r : Answer) (m′ q′ : List ℕ)
-    (h : Receives datagram clock endpoint unicast randoms s m q r m′ q′) (z : r .number ≡ 0) where
-  abbrev call : Call
-  call = calledWith datagram clock endpoint unicast randoms m q
-
+module _ (s : State) (m : List ℕ) (l : AsLeft s m) (c : Call) (before : List (List ℕ)) (t : List ℕ) where
   abbrev context : Context
-  context = contextOf (stateOf s m) call
+  context = contextOf (stateOf s m) c
 
-  abbrev start : Work
-  start = startOf (stateOf s m)
+  abbrev work : Work
+  work = workAfter s m c before
 
-  writes : Written context (tlvs datagram) start (allTlvs context (tlvs datagram) start)
-  writes = all-written context (tlvs datagram) start
+  one-more : workAfter s m c (before ++ (t ∷ [])) ≡ oneTlv context t work
+  one-more = each-at-its-turn .both context before (t ∷ []) (startOf (stateOf s m)) ∙ each-at-its-turn .one context t work
 
-  -- a TLV of the answer is one of those written
-  one-written : (u : List ℕ) → In u (tlvs (take (r .length) q′)) → In u (writes .us)
-  one-written u i =
-      let n : receive call (stateOf s m) .number ≡ 0 = sym (ap (λ (a : ModelAnswer). a .number) (h .is)) ∙ z in
-      let b : take (r .length) q′ ≡ joinAll (writes .us) = ap (λ (a : ModelAnswer). a .bytes) (h .is ∙ each-at-its-turn .call call (stateOf s m) n) ∙ writes .out in
-      subst (λ (us : List (List ℕ)). In u us) (ap tlvs b ∙ tlvs-row (writes .us) (writes .whole)) i
+  serves : Serves (c .clock) work (workAfter s m c (before ++ (t ∷ [])))
+  serves =
+      let o = served .only context t work in
+      subst (Serves (c .clock) work) (sym one-more)
+      (record {
+        wrote = o .0;
+        out = o .1;
+        whole = o .2;
+        states = λ u i five. let f = o .3 u i five in (f .0, led (work .state .own) (c .clock) (work .state .table) (f .0) (f .1), f .2);
+        digests = λ u i four. (
+          reached (work .state .own) (c .clock) (work .state .table),
+          reachable (work .state .own) (c .clock) (work .state .table) (all-sorted context before (startOf (stateOf s m)) (table-ascends s m l)),
+          o .4 u i four ∙ ap networkTlv (states-read-back .digest (work .state .own) (c .clock) (work .state .table)),
+        );
+      })
 
-  sent-counted : (u : List ℕ) → In u (tlvs (take (r .length) q′)) → typeOf u ≡ 5 → SentOf s m call u
-  sent-counted u i five = writes .fair u (one-written u i) five
-
-  told-counted : AsLeft s m → (u : List ℕ) → In u (tlvs (take (r .length) q′)) → typeOf u ≡ 4 → ToldOf s m call u
-  told-counted l u i four =
-      let f = writes .told u (one-written u i) four in
-      let v : Work = allTlvs context (f .0) start in (
-        f .0,
-        f .1,
-        f .2,
-        f .3,
-        reached (allTlvs context (f .0) start .state .own) clock (allTlvs context (f .0) start .state .table),
-        reachable (allTlvs context (f .0) start .state .own) clock (allTlvs context (f .0) start .state .table)
-            (all-sorted context (f .0) start (table-ascends s m l)),
-        f .4 ∙ ap networkTlv (states-read-back .digest (allTlvs context (f .0) start .state .own) clock (allTlvs context (f .0) start .state .table)),
-      )
+replied : (datagram : List ℕ) (clock endpoint : ℕ) (unicast : Bool) (randoms : List ℕ) (s : State) (m q : List ℕ) (r : Answer) (m′ q′ : List ℕ)
+    → Receives datagram clock endpoint unicast randoms s m q r m′ q′ → r .number ≡ 0
+    → take (r .length) q′ ≡ workAfter s m (callOf datagram clock endpoint unicast randoms (length m) (length q)) (tlvs datagram) .out
+replied datagram clock endpoint unicast randoms s m q r m′ q′ h z =
+    let c : Call = callOf datagram clock endpoint unicast randoms (length m) (length q) in
+    ap (λ (a : ModelAnswer). a .bytes) (h .is ∙ each-at-its-turn .call c (stateOf s m) (sym (ap (λ (a : ModelAnswer). a .number) (h .is)) ∙ z))
 
 -- ---- ticks
 
@@ -262,7 +184,7 @@ module _ (clock endpoint : ℕ) (randoms : List ℕ) (s : State) (m q : List ℕ
   tick-stateless : (u : List ℕ) → In u (tlvs (take (r .length) q′)) → ¬ (typeOf u ≡ 5)
   tick-stateless = no-state (r .state .own) endpoint (networkDigest (r .state .own) clock (view (r .state .table) m′)) (take (r .length) q′) tick-tells
 
--- ---- forgetting
+-- ---- purging
 
 purge-counted : (clock : ℕ) (randoms : List ℕ) (s : State) (m : List ℕ) (r : Done) → AsLeft s m → Purges clock randoms s m r → r .number ≡ 0
     → Reachable (s .own) clock (view (s .table) m) (view (r .state .table) m)
@@ -289,8 +211,8 @@ only-reachable =
       totalled = λ clock household s m r l h z.
           let e = total-counted clock s m household r h z in
           (counted clock s m, reachable (s .own) clock (view (s .table) m) (view-ascending (s .table) (l .arranged) m), ap (λ (x : ModelSummed). x .value) e, ap (λ (x : ModelSummed). x .unread) e);
-      sent = sent-counted;
-      told = λ datagram clock endpoint unicast randoms s m q r m′ q′ l h z. told-counted datagram clock endpoint unicast randoms s m q r m′ q′ h z l;
+      replied = λ datagram clock endpoint unicast randoms s m q r m′ q′ l h z.
+          (replied datagram clock endpoint unicast randoms s m q r m′ q′ h z, serves s m l (callOf datagram clock endpoint unicast randoms (length m) (length q)));
       ticked = tick-counted;
       stateless = tick-stateless;
       purged = purge-counted;

@@ -8,10 +8,11 @@ pub mod Sums
 pub mod Listing
 pub mod Saves
 pub mod Shown
-pub mod Chains
-pub mod Deliveries
-pub mod Corollaries
 pub mod Calls
 pub mod Slots
+pub mod Chains
+pub mod Deliveries
 pub mod Traffic
+pub mod OwnPayments
+pub mod Corollaries
 pub mod Returns

@@ -5,13 +5,17 @@ use mathlib.Core.Option.{Option, some}
 use Prim.Native.Nat.{ℕ, _≤_}
 use native.Mathlib.Omega.{arith}
 use lib.ListN.{length, take}
-use borrow.Author.Tests.{le-ltb}
+use lib.Seq.{length-take-le}
+use lib.Dec.{eqb}
+use borrow.Author.Tests.{eqb-true, eqb-false, le-ltb}
 use Rattle.base.specs.Lists.{orElse}
+use Rattle.base.proofs.Tests.{by-test}
 use Rattle.model.specs.Figures.{tableBytes, lastReading, snapshotBytes}
 use Rattle.model.specs.Refusals.{firstOf, late, smallTable}
 use Rattle.model.specs.State.{State as ModelState}
 use Rattle.model.specs.Begin.{Done as ModelDone}
 use Rattle.model.specs.Snapshot.{Snapshot, Saved as ModelSaved, saved, refusalSave, save, load, noSnapshot, resumed, refusalResume, resume}
+use Rattle.model.specs.Invariant.{Valid}
 use Rattle.model.proofs.Refusals.{refusals-exact}
 use Rattle.model.proofs.Snapshots.{snapshots}
 use Rattle.table.specs.View.{view}
@@ -20,10 +24,12 @@ use Rattle.node.specs.declared.State.{State}
 use Rattle.ledger.specs.declared.answers.Done.{Done}
 use Rattle.ledger.specs.declared.answers.Saved.{Saved}
 use Rattle.ledger.specs.Promises.{AsLeft, Resumes, Saves}
+use Rattle.ledger.specs.Calls.{Look, PublicCall}
 use Rattle.ledger.specs.Returning.{bookOf, SavedComesBack}
 use Rattle.ledger.proofs.Left.{room-accepted}
 use Rattle.ledger.proofs.Answering.{as-accepted}
 use Rattle.ledger.proofs.Numbers.{goes-late}
+use Rattle.ledger.proofs.Calls.{refusals-leave-all}
 
 -- ---- saved
 
@@ -37,11 +43,17 @@ module _ (clock : ℕ) (s : State) (m q : List ℕ) (r : Saved) (q′ : List ℕ
       ap (λ (x : ModelSaved). x .bytes)
       (h .is ∙ sym (as-accepted (r .number) (refusalSave clock (length m) (length q) (stateOf s m)) number-is (record { number = 0; bytes = saved (s .own) clock (view (s .table) m) }) (λ k. record { number = k; bytes = [] }) z))
 
+  valid : Valid (stateOf s m)
+  valid = l .valid (room-accepted clock (stateOf s m) (length m) (length q) snapshotBytes (sym number-is ∙ z) .1 .1 .0)
+
+  short : r .length ≤ snapshotBytes
+  unfolding stateOf
+  short = omega (arith, snapshots .room (stateOf s m) clock valid, ap length written, length-take-le (r .length) q′ (h .within))
+
   loads : (later : ℕ) → load later (take (r .length) q′) ≡ some (bookOf clock later s m)
   unfolding stateOf
   loads later =
-      ap (load later) written
-      ∙ snapshots .back (stateOf s m) clock later (l .valid (room-accepted clock (stateOf s m) (length m) (length q) snapshotBytes (sym number-is ∙ z) .1 .1 .0))
+      ap (load later) written ∙ snapshots .back (stateOf s m) clock later valid
 
 -- ---- resumed
 
@@ -69,5 +81,11 @@ resumes clock later rs s m q r q′ l h z fine u n d n′ room g =
     g .0 .is ∙ resume-is later (take (r .length) q′) rs (length n) (stateOf u n) (bookOf clock later s m) fine room (loads clock s m q r q′ l h z later) in
     (ap (λ (x : ModelDone). x .number) e, ap (λ (x : ModelDone). x .state) e)
 
+-- refused, it has no length at all
+fits : (clock : ℕ) (s : State) (m q : List ℕ) (r : Saved) (q′ : List ℕ) → AsLeft s m → Saves clock s m q r q′ → r .length ≤ snapshotBytes
+fits clock s m q r q′ l h =
+    by-test (eqb (r .number) 0) (λ b. short clock s m q r q′ l h (eqb-true (r .number) 0 b))
+    (λ b. omega (arith, refusals-leave-all .refused (PublicCall.looks (Look.saves clock q r q′)) s m h (eqb-false (r .number) 0 b) .1 .1 .0))
+
 pub saved-comes-back : SavedComesBack
-saved-comes-back = record { loads = λ clock later s m q r q′ l h z. loads clock s m q r q′ l h z later; resumes = resumes }
+saved-comes-back = record { fits = fits; loads = λ clock later s m q r q′ l h z. loads clock s m q r q′ l h z later; resumes = resumes }

@@ -114,6 +114,10 @@ module _ (s : State) (m : List ℕ) where
   unfolding stateOf
   after xs d = ap (λ (v : ModelState). othersOf (s .own) (v .table)) (all-turns xs s m (d .goesOn) (d .trace))
 
+  own : (xs : List PublicCall) → Carried s m xs → stateAtEnd s xs .own ≡ s .own
+  unfolding stateOf
+  own xs d = ap (λ (v : ModelState). v .own) (sym (all-turns xs s m (d .goesOn) (d .trace))) ∙ traffic-loses-nothing .own (stateOf s m) (turnsOf (length m) xs)
+
   -- nothing changed
   idle-after : (xs : List PublicCall) → Carried s m xs → length m < tableBytes → othersOf (s .own) (view (s .table) m) ≡ othersAtEnd s m xs
   unfolding stateOf
@@ -141,4 +145,4 @@ module _ (s : State) (m : List ℕ) where
       (λ n. let short : length m < tableBytes = leb-false tableBytes (length m) n in ap statements (sym (idle-after xs d short) ∙ idle-after ys e short))
 
 pub real-traffic-loses-nothing : RealTrafficLosesNothing
-real-traffic-loses-nothing = record { kept = kept; alike = alike }
+real-traffic-loses-nothing = record { own = own; kept = kept; alike = alike }

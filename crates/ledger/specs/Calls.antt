@@ -1,12 +1,13 @@
 -- The public calls as one relation: what each was handed and gave back, and one call after the other. Assumes nothing.
 use mathlib.Core.Path.{_≡_}
-use mathlib.Core.Bool.{Bool}
+use mathlib.Core.Bool.{Bool, true, false}
 use mathlib.Core.List.{List, [], _∷_, _++_}
 use Prim.Native.Nat.{ℕ}
-use lib.ListN.{length}
+use lib.ListN.{length, replicate}
+use lib.IntN.{pos}
 use Rattle.base.specs.Lists.{orElse}
 use Rattle.wire.specs.Payment.{Payment}
-use Rattle.model.specs.Figures.{mostBytes, snapshotBytes}
+use Rattle.model.specs.Figures.{mostNodes, mostBytes, snapshotBytes}
 use Rattle.model.specs.Table.{Entry}
 use Rattle.model.specs.Refusals.{Row, late, back, noSuchEndpoint, smallTable, smallRoom, long, noRow, noHousehold, paidAlready, full, noSuchNode}
 use Rattle.model.specs.Tick.{tick}
@@ -121,23 +122,33 @@ refusalsOf (PublicCall.pays clock p rs r m′) s m =
 refusalsOf (PublicCall.purges clock rs r) s m = late clock ∷ back clock (stateOf s m) ∷ smallTable (length m) ∷ []
 refusalsOf (PublicCall.looks x) s m = lookRefusals x s m
 
--- the room that was lent to it is as it was
-abbrev pub LookRoomSame : Look → Type 0
-LookRoomSame (Look.totals clock household r) = Unit {0}
-LookRoomSame (Look.sums clock r) = Unit {0}
-LookRoomSame (Look.marks clock r) = Unit {0}
-LookRoomSame (Look.saves clock q r q′) = q′ ≡ q
-LookRoomSame (Look.shows n r) = Unit {0}
-LookRoomSame (Look.asks n k) = Unit {0}
+-- "The answer then carries that number .. and length 0, all else 0 or empty; .. lent buffers stay": its answer beside number and state, and its room
+abbrev pub LookBare : Look → Type 0
+LookBare (Look.totals clock household r) = (r .value ≡ pos 0) × (r .unread ≡ 0)
+LookBare (Look.sums clock r) = (r .value ≡ pos 0) × (r .unread ≡ 0)
+LookBare (Look.marks clock r) = (r .count ≡ 0) × ((r .nodes ≡ replicate mostNodes 0) × (r .digest ≡ replicate 16 0))
+LookBare (Look.saves clock q r q′) = (r .length ≡ 0) × (q′ ≡ q)
+LookBare (Look.shows n r) = (r .start ≡ 0) × (r .length ≡ 0)
+LookBare (Look.asks n k) = Unit {0}
 
-abbrev pub RoomSame : PublicCall → Type 0
-RoomSame (PublicCall.begins own clock rs r) = Unit {0}
-RoomSame (PublicCall.resumes bytes clock rs r m′) = Unit {0}
-RoomSame (PublicCall.receives datagram clock endpoint unicast rs q r m′ q′) = q′ ≡ q
-RoomSame (PublicCall.ticks clock endpoint rs q r m′ q′) = q′ ≡ q
-RoomSame (PublicCall.pays clock p rs r m′) = Unit {0}
-RoomSame (PublicCall.purges clock rs r) = Unit {0}
-RoomSame (PublicCall.looks x) = LookRoomSame x
+abbrev pub Bare : PublicCall → Type 0
+Bare (PublicCall.begins own clock rs r) = Unit {0}
+Bare (PublicCall.resumes bytes clock rs r m′) = Unit {0}
+Bare (PublicCall.receives datagram clock endpoint unicast rs q r m′ q′) = (r .length ≡ 0) × ((r .omitted ≡ 0) × ((r .dropped ≡ 0) × (q′ ≡ q)))
+Bare (PublicCall.ticks clock endpoint rs q r m′ q′) = (r .length ≡ 0) × (q′ ≡ q)
+Bare (PublicCall.pays clock p rs r m′) = Unit {0}
+Bare (PublicCall.purges clock rs r) = Unit {0}
+Bare (PublicCall.looks x) = LookBare x
+
+-- it takes the place of the state, whatever that was
+abbrev pub startsAnew : PublicCall → Bool
+startsAnew (PublicCall.begins own clock rs r) = true
+startsAnew (PublicCall.resumes bytes clock rs r m′) = true
+startsAnew (PublicCall.receives datagram clock endpoint unicast rs q r m′ q′) = false
+startsAnew (PublicCall.ticks clock endpoint rs q r m′ q′) = false
+startsAnew (PublicCall.pays clock p rs r m′) = false
+startsAnew (PublicCall.purges clock rs r) = false
+startsAnew (PublicCall.looks x) = false
 
 -- the entries whose data it wrote in the table memory, accepted
 abbrev pub writtenBy : PublicCall → State → List ℕ → List Entry

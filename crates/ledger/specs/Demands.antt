@@ -1,6 +1,6 @@
 -- The three demands, over the promises of the public calls. Assumes nothing.
 use mathlib.Core.Path.{_≡_}
-use mathlib.Core.Bool.{Bool}
+use mathlib.Core.Bool.{Bool, false}
 use mathlib.Core.List.{List, [], _∷_, _++_, map}
 use mathlib.Core.Logic.{_⊎_, _↔_}
 use mathlib.Core.Option.{some}
@@ -12,7 +12,7 @@ use Rattle.base.specs.Memory.{part}
 use Rattle.base.specs.Signed.{sumℤ}
 use Rattle.base.specs.Sorted.{Ascending}
 use Rattle.sha256.specs.Sha256.{hash16}
-use Rattle.wire.specs.Row.{typeOf, tlvs}
+use Rattle.wire.specs.Row.{row, typeOf, tlvs}
 use Rattle.wire.specs.Payment.{mostHousehold}
 use Rattle.model.specs.Figures.{dataLimit, tableBytes}
 use Rattle.model.specs.Table.{Entry, Statement, idOf, statements}
@@ -25,7 +25,7 @@ use Rattle.model.specs.Theorems.{Chained, upFrom, Form, Exact}
 use Rattle.model.specs.Reach.{inReach}
 use Rattle.model.specs.Digest.{networkDigest}
 use Rattle.table.specs.declared.Entry.{Entry as Meta}
-use Rattle.table.specs.View.{live, view, dataOf, Free, metaOf}
+use Rattle.table.specs.View.{live, view, dataOf, Free, metaOf, Lays}
 use Rattle.node.specs.View.{stateOf}
 use Rattle.node.specs.declared.State.{State}
 use Rattle.exchange.specs.Datagram.{callOf}
@@ -35,7 +35,7 @@ use Rattle.ledger.specs.declared.answers.Answer.{Answer}
 use Rattle.ledger.specs.declared.answers.Summed.{Summed}
 use Rattle.ledger.specs.declared.answers.Marked.{Marked}
 use Rattle.ledger.specs.Promises.{AsLeft, Blank, Receives, Ticks, Purges, Totals, SumsUp, Marks}
-use Rattle.ledger.specs.Calls.{PublicCall, Promised, stateAfter, memoryAfter, numberOf, refusalsOf, RoomSame, writtenBy, Trace, stateAtEnd, memoryAtEnd}
+use Rattle.ledger.specs.Calls.{PublicCall, Promised, stateAfter, memoryAfter, numberOf, refusalsOf, Bare, startsAnew, writtenBy, Trace, stateAtEnd, memoryAtEnd}
 
 -- ---- demand 1: "The caller hands back state and table as the last call left them and need check nothing"
 
@@ -50,13 +50,15 @@ pub record PremiseHolds : Type 0 where
 pub record NumbersExact : Type 0 where
   pub number : (x : PublicCall) (s : State) (m : List ℕ) → Promised x s m → Exact (numberOf x s m) (refusalsOf x s m)
 
--- "A refusal .. writes nothing in lent memory, changes no state": all of it is identical
+-- "A refusal gives its number .., writes nothing in lent memory, changes no state": state, table memory and room are identical, and all else of the answer is 0
 pub record RefusalsLeaveAll : Type 0 where
-  pub refused : (x : PublicCall) (s : State) (m : List ℕ) → Promised x s m → ¬ (numberOf x s m ≡ 0) → (stateAfter x s ≡ s) × ((memoryAfter x m ≡ m) × RoomSame x)
+  pub refused : (x : PublicCall) (s : State) (m : List ℕ) → Promised x s m → ¬ (numberOf x s m ≡ 0) → (stateAfter x s ≡ s) × ((memoryAfter x m ≡ m) × Bare x)
 
--- "Bytes of a buffer beyond what is written stay", of the table memory: its length and the bytes past the table; every slot that no node has afterwards; of
--- a node's slot what lies behind all data that the call wrote there; and all of it where its data are as before and none longer came between.
+-- "Bytes of a buffer beyond what is written stay", of the table memory: accepted, the data of these entries were written, each in its node's slot, and no
+-- other byte. So there stay its length and the bytes past the table; every slot that no node has afterwards; of a node's slot what lies behind all data
+-- that the call wrote there; and all of it where its data are as before and none longer came between. A node that is held before and after has one slot.
 pub record MemoryKept : Type 0 where
+  pub exactly : (x : PublicCall) (s : State) (m : List ℕ) → Promised x s m → numberOf x s m ≡ 0 → Lays m (writtenBy x s m) (stateAfter x s .table) (memoryAfter x m)
   pub size : (x : PublicCall) (s : State) (m : List ℕ) → Promised x s m → length (memoryAfter x m) ≡ length m
   pub beyond : (x : PublicCall) (s : State) (m : List ℕ) → Promised x s m → drop tableBytes (memoryAfter x m) ≡ drop tableBytes m
   pub free : (x : PublicCall) (s : State) (m : List ℕ) → Promised x s m → (j : ℕ) → Free j (live (stateAfter x s .table))
@@ -67,6 +69,8 @@ pub record MemoryKept : Type 0 where
   pub same : (x : PublicCall) (s : State) (m : List ℕ) → Promised x s m → (n : ℕ) (y : Meta) → metaOf (stateAfter x s .table) n ≡ some y
       → dataOf (memoryAfter x m) y ≡ dataOf m y → ((e : Entry) → In e (writtenBy x s m) → idOf e ≡ n → length (e .says .nodeData) ≤ y .len)
       → part (memoryAfter x m) (y .slot * dataLimit) dataLimit ≡ part m (y .slot * dataLimit) dataLimit
+  pub slots : (x : PublicCall) (s : State) (m : List ℕ) → Promised x s m → startsAnew x ≡ false
+      → (n : ℕ) (y z : Meta) → metaOf (s .table) n ≡ some y → metaOf (stateAfter x s .table) n ≡ some z → z .slot ≡ y .slot
 
 -- ---- demand 2: "Only such boxes enter the network digest, a total or a Node State we send"
 
@@ -79,19 +83,19 @@ pub record Reachable (own clock : ℕ) (t es : List Entry) : Type 0 where
 abbrev pub digestOver : List Entry → List ℕ
 digestOver es = hash16 (joinAll (map (λ (e : Entry). big32 (e .says .seq) ++ hash16 (e .says .nodeData)) es))
 
--- u is a Node State of a node that a chain reached at the moment when one of the datagram's TLVs was handled
-abbrev pub SentOf : State → List ℕ → Call → List ℕ → Type 0
-SentOf s m c u =
-    (before : List (List ℕ)) × (t : List ℕ) × (later : List (List ℕ)) × (tlvs (c .datagram) ≡ before ++ (t ∷ later)) × (e : Entry) ×
-    (let w : ModelWork = allTlvs (contextOf (stateOf s m) c) before (startOf (stateOf s m)) in
-    In e (w .state .table) × Chained (w .state .own) (c .clock) (w .state .table) (idOf e)) × ((u ≡ shortState (c .clock) e) ⊎ (u ≡ wholeState (c .clock) e))
+-- the work on a datagram after its first TLVs
+abbrev pub workAfter : State → List ℕ → Call → List (List ℕ) → ModelWork
+workAfter s m c ts = allTlvs (contextOf (stateOf s m) c) ts (startOf (stateOf s m))
 
--- u is a Network State with the digest over exactly the nodes that a chain reached at such a moment
-abbrev pub ToldOf : State → List ℕ → Call → List ℕ → Type 0
-ToldOf s m c u =
-    (before : List (List ℕ)) × (t : List ℕ) × (later : List (List ℕ)) × (tlvs (c .datagram) ≡ before ++ (t ∷ later)) × (es : List Entry) ×
-    (let w : ModelWork = allTlvs (contextOf (stateOf s m) c) before (startOf (stateOf s m)) in
-    Reachable (w .state .own) (c .clock) (w .state .table) es) × (u ≡ networkTlv (digestOver es))
+-- from the work w to the work v whole TLVs were written: each Node State of a node to which a chain leads at w, each Network State with the digest over
+-- exactly these nodes
+pub record Serves (clock : ℕ) (w v : ModelWork) : Type 0 where
+  pub wrote : List (List ℕ)
+  pub out : v .out ≡ w .out ++ joinAll wrote
+  pub whole : row (joinAll wrote) ≡ some wrote
+  pub states : (u : List ℕ) → In u wrote → typeOf u ≡ 5
+      → (e : Entry) × (In e (w .state .table) × Chained (w .state .own) clock (w .state .table) (idOf e)) × ((u ≡ shortState clock e) ⊎ (u ≡ wholeState clock e))
+  pub digests : (u : List ℕ) → In u wrote → typeOf u ≡ 4 → (es : List Entry) × Reachable (w .state .own) clock (w .state .table) es × (u ≡ networkTlv (digestOver es))
 
 pub record OnlyReachable : Type 0 where
   pub marked : (clock : ℕ) (s : State) (m : List ℕ) (r : Marked) → AsLeft s m → Marks clock s m r → r .number ≡ 0
@@ -101,20 +105,19 @@ pub record OnlyReachable : Type 0 where
   pub totalled : (clock household : ℕ) (s : State) (m : List ℕ) (r : Summed) → AsLeft s m → Totals clock household s m r → r .number ≡ 0
       → (es : List Entry) × Reachable (s .own) clock (view (s .table) m) es × (r .value ≡ totalOf household (statements es))
       × (r .unread ≡ unreadable (paymentsIn (statements es)))
-  -- what a datagram is answered with: Node States and Network States
-  pub sent : (datagram : List ℕ) (clock endpoint : ℕ) (unicast : Bool) (randoms : List ℕ) (s : State) (m q : List ℕ) (r : Answer) (m′ q′ : List ℕ)
-      → Receives datagram clock endpoint unicast randoms s m q r m′ q′ → r .number ≡ 0
-      → (u : List ℕ) → In u (tlvs (take (r .length) q′)) → typeOf u ≡ 5 → SentOf s m (callOf datagram clock endpoint unicast randoms (length m) (length q)) u
-  pub told : (datagram : List ℕ) (clock endpoint : ℕ) (unicast : Bool) (randoms : List ℕ) (s : State) (m q : List ℕ) (r : Answer) (m′ q′ : List ℕ) → AsLeft s m
-      → Receives datagram clock endpoint unicast randoms s m q r m′ q′ → r .number ≡ 0
-      → (u : List ℕ) → In u (tlvs (take (r .length) q′)) → typeOf u ≡ 4 → ToldOf s m (callOf datagram clock endpoint unicast randoms (length m) (length q)) u
+  -- what a datagram is answered with: all that its TLVs wrote, and each of them by what was reachable at its turn, whatever came before it
+  pub replied : (datagram : List ℕ) (clock endpoint : ℕ) (unicast : Bool) (randoms : List ℕ) (s : State) (m q : List ℕ) (r : Answer) (m′ q′ : List ℕ) → AsLeft s m
+      → Receives datagram clock endpoint unicast randoms s m q r m′ q′ → r .number ≡ 0 →
+      let c : Call = callOf datagram clock endpoint unicast randoms (length m) (length q) in
+      (take (r .length) q′ ≡ workAfter s m c (tlvs datagram) .out)
+      × ((before : List (List ℕ)) (t : List ℕ) → Serves clock (workAfter s m c before) (workAfter s m c (before ++ (t ∷ []))))
   -- what a tick sends: nothing, or our Node Endpoint TLV and the digest of the table that it leaves; never a Node State
   pub ticked : (clock endpoint : ℕ) (randoms : List ℕ) (s : State) (m q : List ℕ) (r : Sent) (m′ q′ : List ℕ) → Ticks clock endpoint randoms s m q r m′ q′ → r .number ≡ 0
       → (es : List Entry) × Reachable (r .state .own) clock (view (r .state .table) m′) es
       × ((take (r .length) q′ ≡ []) ⊎ (take (r .length) q′ ≡ endpointTlv (r .state .own) endpoint ++ networkTlv (digestOver es)))
   pub stateless : (clock endpoint : ℕ) (randoms : List ℕ) (s : State) (m q : List ℕ) (r : Sent) (m′ q′ : List ℕ) → Ticks clock endpoint randoms s m q r m′ q′ → r .number ≡ 0
       → (u : List ℕ) → In u (tlvs (take (r .length) q′)) → ¬ (typeOf u ≡ 5)
-  -- what is left when the others are forgotten
+  -- what a purge leaves
   pub purged : (clock : ℕ) (randoms : List ℕ) (s : State) (m : List ℕ) (r : Done) → AsLeft s m → Purges clock randoms s m r → r .number ≡ 0
       → Reachable (s .own) clock (view (s .table) m) (view (r .state .table) m)
   -- the digest that a state has, whatever call left it
@@ -197,12 +200,12 @@ pub record OverPromises : Type 0 where
       → (rs q : List ℕ) (a : Sent) (m₁ q₁ : List ℕ) → Ticks clock endpoint rs s m q a m₁ q₁ → a .number ≡ 0
       → (rs₂ p : List ℕ) (b : Sent) (m₂ p₂ : List ℕ) → Ticks clock endpoint rs₂ (a .state) m₁ p b m₂ p₂ → b .number ≡ 0
       → (rs₃ o : List ℕ) (c : Sent) (m₃ o₃ : List ℕ) → Ticks clock endpoint rs₃ (b .state) m₂ o c m₃ o₃
-      → (c .length ≡ 0) × (o₃ ≡ o) × (stateOf (c .state) m₃ ≡ stateOf (b .state) m₂)
-  -- the totals of all households add up to the sum
+      → (c .length ≡ 0) × (o₃ ≡ o) × (m₃ ≡ m₂) × (stateOf (c .state) m₃ ≡ stateOf (b .state) m₂)
+  -- the totals of all households add up to the sum, and with each comes the same count
   pub households : (clock : ℕ) (s : State) (m : List ℕ) (r : Summed) → SumsUp clock s m r → r .number ≡ 0
       → (t : ℕ → Summed) → ((h : ℕ) → 1 ≤ h → h ≤ mostHousehold → Totals clock h s m (t h))
-      → sumℤ (map (λ (h : ℕ). t h .value) (upFrom mostHousehold 1)) ≡ r .value
-  -- all that is sent is a row of whole TLVs, our Node Endpoint TLV first, within 4,096 bytes
+      → (sumℤ (map (λ (h : ℕ). t h .value) (upFrom mostHousehold 1)) ≡ r .value) × ((h : ℕ) → 1 ≤ h → h ≤ mostHousehold → t h .unread ≡ r .unread)
+  -- all that is sent is a row of whole TLVs, our Node Endpoint TLV first and nowhere else, within 4,096 bytes
   pub answered : (datagram : List ℕ) (clock endpoint : ℕ) (unicast : Bool) (randoms : List ℕ) (s : State) (m q : List ℕ) (r : Answer) (m′ q′ : List ℕ)
       → Receives datagram clock endpoint unicast randoms s m q r m′ q′ → Form (s .own) endpoint (take (r .length) q′)
   pub announced : (clock endpoint : ℕ) (randoms : List ℕ) (s : State) (m q : List ℕ) (r : Sent) (m′ q′ : List ℕ)

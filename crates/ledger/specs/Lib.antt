@@ -4,3 +4,4 @@ pub mod Calls
 pub mod Demands
 pub mod Traffic
 pub mod Returning
+pub mod OwnPayments

@@ -16,7 +16,7 @@ use Rattle.exchange.specs.Datagram.{callOf}
 use Rattle.ledger.specs.Promises.{AsLeft}
 use Rattle.ledger.specs.Calls.{PublicCall, Trace, stateAtEnd, memoryAtEnd}
 
--- all calls but those that begin anew and the one that forgets
+-- all calls but those that start anew and the one that purges
 abbrev pub continues : PublicCall → Bool
 continues (PublicCall.begins own clock rs r) = false
 continues (PublicCall.resumes bytes clock rs r m′) = false
@@ -59,6 +59,7 @@ abbrev pub othersAtEnd : State → List ℕ → List PublicCall → List Entry
 othersAtEnd s m xs = othersOf (s .own) (view (stateAtEnd s xs .table) (memoryAtEnd m xs))
 
 pub record RealTrafficLosesNothing : Type 0 where
+  pub own : (s : State) (m : List ℕ) (xs : List PublicCall) → Carried s m xs → stateAtEnd s xs .own ≡ s .own
   -- exactly the other nodes held or heard, each with its newest statement
   pub kept : (s : State) (m : List ℕ) (xs : List PublicCall) → Carried s m xs → Holds (λ (x : Statement). In x (heldOrHeardOf s m xs)) (othersAtEnd s m xs)
   -- two such lists that heard the same leave the same of the other nodes, apart from ages

@@ -32,7 +32,8 @@ use Rattle.model.specs.Receive.{aboutOther}
 use Rattle.model.specs.Tick.{Sent, goes, someOf, withoutPeers, dropSilent, ticked, refusalTick, tick}
 use Rattle.model.specs.Begin.{Done}
 use Rattle.model.specs.Pay.{paid, refusalPay, pay}
-use Rattle.model.specs.Traffic.{saying, saidIn}
+use Rattle.model.specs.Delivery.{saying}
+use Rattle.model.specs.Traffic.{saidIn}
 use Rattle.model.proofs.Merge.{nodeOf, saysOf, Sorted, Welcome, absorb, absorb-new, absorb-newer, absorb-old}
 use Rattle.model.proofs.OneCall.{Carries, seen, touch-seen, reply-seen, decided}
 

@@ -13,7 +13,7 @@ use Rattle.model.specs.Reach.{Vertex, vertices, inReach, marked, reached
 use Rattle.model.specs.Digest.{digestOf, networkDigest}
 use Rattle.model.specs.State.{State}
 use Rattle.model.specs.Receive.{Call}
-use Rattle.model.specs.Delivery.{brought, accepted, next, run, bringsIf, heard, heldOrHeard, Brings, Lone, Premises, Kept, SameHeard, Under, Alike, OrderLosesNothing}
+use Rattle.model.specs.Delivery.{brought, accepted, next, run, bringsIf, heard, heldOrHeard, Brings, Lone, Premises, Holds, SameHeard, Under, Alike, OrderLosesNothing}
 use Rattle.model.proofs.Merge.{nodeOf, saysOf, Within, Agreed, Newest, held, welcome, absorbed, newest-same, holds}
 use Rattle.base.proofs.Sorted.{ascending-map}
 use Rattle.model.proofs.OneCall.{refused-same, own-same, table-absorbs}
@@ -108,7 +108,7 @@ module _ (s : State) (cs : List Call) (p : Premises s cs) where
       let l = statements (s .table) in
       delivered all agreed ds s l (heldOrHeard s ds) lone refl w (held all agreed l (rw (ascending-map saysOf nodeOf (s .table)) (p .valid .inside .table .ascending)))
 
-  kept : Kept s cs
+  kept : Holds (λ x. In x (heldOrHeard s cs)) (run s cs .table)
   kept = holds all agreed all (run s cs .table) (λ x m. m) (newest-after cs (p .lone) (λ x m. m))
 
   module _ (ds : List Call) (q : Premises s ds) (same : SameHeard s cs ds) where

@@ -56,7 +56,7 @@ module _ (own clock : ℕ) (rs : List ℕ) (t : List Entry) (e : Entry) where
 
 -- ---- beginning
 
-empty-good : good dataLimit [] ≡ true
+pub empty-good : good dataLimit [] ≡ true
 unfolding ascending
 empty-good = good-made dataLimit [] tt refl (omega arith)
 
@@ -168,9 +168,9 @@ module _ (clock : ℕ) (p : Payment) (rs : List ℕ) (table : ℕ) (s : State) w
 
 -- ---- purging: our own node is reachable, and so stays
 
-pub own-reached : (own clock : ℕ) (t : List Entry) (e : Entry) → In e t → idOf e ≡ own → inReach own clock t own ≡ true
+pub node-reached : (own clock : ℕ) (t : List Entry) (e : Entry) → In e t → idOf e ≡ own → inReach own clock t own ≡ true
 unfolding inReach marked met
-own-reached own clock t e m q =
+node-reached own clock t e m q =
     any-in (isNode own) v (level0 own (vertices clock t) ++ joinAll (levels own (vertices clock t)))
     (in-left v (level0 own (vertices clock t)) (joinAll (levels own (vertices clock t))) (in-keep (isNode own) v (vertices clock t) (in-map _ e t m) b)) b
   where
@@ -184,12 +184,12 @@ module _ (clock : ℕ) (s : State) (m : Midway clock s) where
   abbrev inside : Entry → Bool
   inside e = inReach (s .own) clock (s .table) (idOf e)
 
-  reached-held : look (s .own) (reached (s .own) clock (s .table)) ≡ some (ownEntry s)
+  pub reached-held : look (s .own) (reached (s .own) clock (s .table)) ≡ some (ownEntry s)
   unfolding reached look
   reached-held =
       let r : In (ownEntry s) (s .table) × (idOf (ownEntry s) ≡ s .own) = find-some idOf (s .own) (ownEntry s) (s .table) (midway-held s m) in
       find-keep idOf inside (s .own) (ownEntry s) (s .table) (midway-held s m)
-      (rw (r .1) (own-reached (s .own) clock (s .table) (ownEntry s) (r .0) (r .1)))
+      (rw (r .1) (node-reached (s .own) clock (s .table) (ownEntry s) (r .0) (r .1)))
 
   pub reached-kept : Midway clock (withTable (reached (s .own) clock (s .table)) s)
   unfolding reached ownEntry

@@ -17,7 +17,7 @@ use Rattle.wire.specs.Order.{good, place, among}
 use Rattle.wire.specs.Payment.{Payment, paymentTlv}
 use Rattle.wire.proofs.Ordering.{same-is, same-self}
 use Rattle.wire.proofs.Rows.{tlvs-end}
-use Rattle.wire.proofs.Good.{Whole, good-row, place-good, place-tlvs, keep-good, keep-tlvs, place-in, in-place, among-in}
+use Rattle.wire.proofs.Good.{Whole, place-good, place-tlvs, keep-good, keep-tlvs, place-in, in-place, among-in}
 use Rattle.wire.proofs.Encoded.{encode-whole, encode-type, encode-value, encode-length, payment-whole, payment-type}
 use Rattle.model.specs.Figures.{dataLimit, mostPeers, peerBytes}
 use Rattle.model.specs.State.{Peer, peerTlv, withTlv, isPeer}
@@ -180,7 +180,7 @@ module _ (p : Peer) (d : List ℕ) (ps : List Peer) (k : Linked d ps) (u : known
 -- ---- TLVs taken out
 
 -- whether t is the Peer TLV of one of these peers
-abbrev names : List Peer → List ℕ → Bool
+abbrev pub names : List Peer → List ℕ → Bool
 names ps t = any (λ p. same (peerTlv p) t) ps
 
 -- the peers that f holds of go, the others stay
@@ -220,7 +220,7 @@ module _ (f : Peer → Bool) (d : List ℕ) (ps : List Peer) (g : good dataLimit
 
   pub gone-linked : Linked d ps → Once ps → Linked (withoutPeers (keep f ps) d) (keep (λ p. not (f p)) ps)
   unfolding withoutPeers
-  gone-linked k o t = rw (keep-tlvs left d (good-row dataLimit d g)) (into, back)
+  gone-linked k o t = rw (keep-tlvs left d) (into, back)
     where
       left : List ℕ → Bool
       left u = not (names (keep f ps) u)
@@ -240,7 +240,7 @@ module _ (d : List ℕ) (g : good dataLimit d ≡ true) where
   none-good = keep-good (λ t. not (eqb (typeOf t) 8)) dataLimit d g
 
   pub none-linked : Linked (withoutLinks d) []
-  none-linked t = rw (keep-tlvs (λ u. not (eqb (typeOf u) 8)) d (good-row dataLimit d g)) (into, λ m. absurd m)
+  none-linked t = rw (keep-tlvs (λ u. not (eqb (typeOf u) 8)) d) (into, λ m. absurd m)
     where
       into : In t (keep (λ u. not (eqb (typeOf u) 8)) (tlvs d)) × (typeOf t ≡ 8) → ⊥
       into (m, e) =

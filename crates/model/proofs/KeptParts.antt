@@ -103,11 +103,6 @@ module _ {clock : ℕ} (s : State) (m : Midway clock s) where
   pub midway-own : EntryFits clock (ownEntry s)
   midway-own = all-in (EntryFits clock) (ownEntry s) (s .table) (m .table .entries) (own-in .0)
 
-module _ (s : State) (v : Valid s) where
-  -- our node is in its table
-  pub own-held : look (s .own) (s .table) ≡ some (ownEntry s)
-  own-held = midway-held s (v .inside)
-
 -- ---- an entry put into the table
 
 pub look-put : (e : Entry) (t : List Entry) → look (idOf e) (put e t) ≡ some e

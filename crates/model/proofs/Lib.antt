@@ -13,6 +13,7 @@ pub mod Snapshots
 pub mod KeptCalls
 pub mod Aside
 pub mod Traffic
+pub mod OwnPayments
 pub mod Kept
 pub mod Totals
 pub mod Served

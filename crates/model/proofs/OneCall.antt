@@ -24,7 +24,7 @@ use Rattle.model.specs.Decide.{Received, Decision, receivedOf, taken, wi
 use Rattle.model.specs.Handle.{Context, Sender, Work, withState, touchBy, touch, fits, reply, carryOut, onState, onTlv, oneTlv, allTlvs}
 use Rattle.model.specs.Receive.{Call, Answer, contextOf, startOf, handled, refusalReceive, answered, receive}
 use Rattle.model.specs.Messages.{requestNodeTlv}
-use Rattle.model.specs.Delivery.{statementOf, alone, brought, accepted, next, Brings}
+use Rattle.model.specs.Delivery.{saying, statementOf, alone, brought, accepted, next, Brings}
 use Rattle.model.proofs.Merge.{nodeOf, saysOf, Welcome, absorb, absorb-new, absorb-newer, absorb-old}
 
 -- ---- the statement that is brought
@@ -34,9 +34,6 @@ chosen true o x e = (refl, e)
 chosen false o x e = absurd (let z : _≡_ {A = ℕ} 0 1 = cc in omega arith)
 
 -- what a Node State with the data d says
-abbrev pub said : Received → List ℕ → Statement
-said r d = record { node = r .node; seq = r .seq; nodeData = d }
-
 -- a Node State carries the data d, good and with matching H: it is taken whole where it is wanted
 pub record Carries (r : Received) (d : List ℕ) : Type 0 where
   pub hashed : same (hash16 d) (r .hash) ≡ true
@@ -49,18 +46,18 @@ pub record Found (c : Call) (x : Statement) : Type 0 where
   pub type : typeOf tlv ≡ 5
   pub long : leb 28 (length (valueOf tlv)) ≡ true
   pub carries : Carries (receivedOf (valueOf tlv)) (x .nodeData)
-  pub is : said (receivedOf (valueOf tlv)) (x .nodeData) ≡ x
+  pub is : saying (receivedOf (valueOf tlv)) (x .nodeData) ≡ x
 
 carrying : (n q a : ℕ) (h : List ℕ) (o : Option (List ℕ)) (x : Statement) →
     let r : Received = record { node = n; seq = q; age = a; hash = h; carried = o } in
-    statementOf r ≡ some x → Carries r (x .nodeData) × (said r (x .nodeData) ≡ x)
+    statementOf r ≡ some x → Carries r (x .nodeData) × (saying r (x .nodeData) ≡ x)
 unfolding withData
 carrying n q a h none x e = absurd (let z : _≡_ {A = ℕ} 0 1 = cc in omega arith)
 carrying n q a h (some d) x e =
     let r : Received = record { node = n; seq = q; age = a; hash = h; carried = some d } in
-    let k = chosen (good dataLimit d && same (hash16 d) h) (some (said r d)) x e in
-    let v : said r d ≡ x = cc in
-    subst (λ (x : Statement). Carries r (x .nodeData) × (said r (x .nodeData) ≡ x)) v
+    let k = chosen (good dataLimit d && same (hash16 d) h) (some (saying r d)) x e in
+    let v : saying r d ≡ x = cc in
+    subst (λ (x : Statement). Carries r (x .nodeData) × (saying r (x .nodeData) ≡ x)) v
     (record { hashed = and-right (good dataLimit d) (same (hash16 d) h) (k .0); takes = λ clock z. rw (k .0) }, refl)
 
 found-in : (c : Call) (x : Statement) (ts : List (List ℕ)) → tlvs (c .datagram) ≡ ts → alone ts ≡ some x → Found c x
@@ -165,22 +162,22 @@ module _ (clock : ℕ) (t : List Entry) (r : Received) (d : List ℕ) (h : Carri
       by-test (eqb (g .says .seq) (r .seq))
       (λ b. rw (l, o, b, single (eqb-true (g .says .seq) (r .seq) b), h .hashed)) (λ b. rw (l, o, b))
 
-  pub takes-all : statements (after (Decision.takeAll (taken clock r d)) t) ≡ insert nodeOf (said r d) (statements t)
+  pub takes-all : statements (after (Decision.takeAll (taken clock r d)) t) ≡ insert nodeOf (saying r d) (statements t)
   unfolding after put
   takes-all = insert-map saysOf nodeOf (taken clock r d) t
 
-  pub decided : Welcome (said r d) (statements t) → statements (after (decide clock t r) t) ≡ absorb (said r d) (statements t)
+  pub decided : Welcome (saying r d) (statements t) → statements (after (decide clock t r) t) ≡ absorb (saying r d) (statements t)
   unfolding after
   decided k =
       by-find idOf (r .node) t
       (λ n. let q : find nodeOf (r .node) (statements t) ≡ none = find-map saysOf nodeOf (r .node) t ∙ rw n in
       let l : length (statements t) < mostNodes = k .room q in
-      rw (decide-new n (omega (arith, length-map t saysOf))) (takes-all ∙ sym (absorb-new (said r d) (statements t) q)))
+      rw (decide-new n (omega (arith, length-map t saysOf))) (takes-all ∙ sym (absorb-new (saying r d) (statements t) q)))
       (λ g n. let q : find nodeOf (r .node) (statements t) ≡ some (g .says) = find-map saysOf nodeOf (r .node) t ∙ rw n in
       let m = find-some nodeOf (r .node) (g .says) (statements t) q in
       by-test (older (g .says .seq) (r .seq))
-      (λ o. rw (decide-newer g n o) (takes-all ∙ sym (absorb-newer (said r d) (statements t) (g .says) q o)))
-      (λ o. rw (decide-older g n o (k .single (g .says) (m .0) (m .1))) (sym (absorb-old (said r d) (statements t) (g .says) q o))))
+      (λ o. rw (decide-newer g n o) (takes-all ∙ sym (absorb-newer (saying r d) (statements t) (g .says) q o)))
+      (λ o. rw (decide-older g n o (k .single (g .says) (m .0) (m .1))) (sym (absorb-old (saying r d) (statements t) (g .says) q o))))
 
 -- ---- an accepted call that brings a statement: our identifier stays, and the table takes the statement by the newest
 

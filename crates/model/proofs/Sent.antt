@@ -1,6 +1,6 @@
 -- Everything that a datagram's handling or a tick sends is empty, or a row of whole TLVs with our Node Endpoint TLV first, within the room.
 -- Assumes nothing.
-use mathlib.Core.Path.{_≡_, refl, ap, subst, _∙_}
+use mathlib.Core.Path.{_≡_, refl, sym, ap, subst, _∙_}
 use mathlib.Core.Bool.{Bool, true, false, cond}
 use mathlib.Core.List.{List, [], _∷_, _++_, append-nil}
 use mathlib.Core.Logic.{inl, inr}
@@ -14,7 +14,7 @@ use Rattle.base.specs.Bytes.{big32}
 use Rattle.base.proofs.Tests.{by-test}
 use Rattle.sha256.proofs.Sizes.{hash16-length}
 use Rattle.wire.specs.Row.{row, tlvs}
-use Rattle.wire.proofs.Encoded.{encode-whole, encode-length}
+use Rattle.wire.proofs.Encoded.{encode-type, encode-whole, encode-length}
 use Rattle.wire.proofs.Good.{Wholes, row-joined, wholes-append}
 use Rattle.model.specs.Figures.{mostBytes}
 use Rattle.model.specs.Table.{Entry}
@@ -46,7 +46,7 @@ module _ (own : ℕ) (c : Context) where
         us = s .us ++ a .us;
         out = a .out ∙ rw (s .out, join-append (s .us) (a .us));
         whole = wholes-append (s .us) (a .us) (s .whole) (a .whole);
-        headed = headed-append own (c .endpoint) (s .us) (a .us) (s .headed) (λ z. rw (s .own) at (a .first (ap length (s .out) ∙ z)));
+        headed = headed-append own (c .endpoint) (s .us) (a .us) (s .headed) (λ z. rw (s .own) at (a .first (ap length (s .out) ∙ z))) (λ n. a .later (λ z. n (sym (ap length (s .out)) ∙ z)));
         room = a .room (s .room);
         own = a .own ∙ s .own;
       }
@@ -62,7 +62,8 @@ start-shaped endpoint s = record { us = []; out = refl; whole = tt; headed = tt;
 -- whole TLVs, our Node Endpoint TLV first, are of the form
 row-form : (own endpoint : ℕ) (us : List (List ℕ)) (bytes : List ℕ) → bytes ≡ joinAll us → Wholes us → Headed own endpoint us → length bytes ≤ mostBytes → Form own endpoint bytes
 row-form own endpoint [] bytes e k h l = record { sent = inl e; fits = l }
-row-form own endpoint (u ∷ us) bytes e k h l = record { sent = inr (us, ap row e ∙ row-joined (u ∷ us) k ∙ rw h); fits = l }
+row-form own endpoint (u ∷ []) bytes e k h l = absurd h
+row-form own endpoint (u ∷ t ∷ ts) bytes e k h l = record { sent = inr (t, ts, ap row e ∙ row-joined (u ∷ t ∷ ts) k ∙ rw (h .0), h .1); fits = l }
 
 empty-form : (own endpoint : ℕ) → Form own endpoint []
 empty-form own endpoint = record { sent = inl refl; fits = omega arith }
@@ -84,7 +85,7 @@ digest-length own clock t = hash16-length _
 announced : (own endpoint : ℕ) (d : List ℕ) → length d ≡ 16 → Form own endpoint (endpointTlv own endpoint ++ networkTlv d)
 announced own endpoint d e =
     row-form own endpoint (endpointTlv own endpoint ∷ networkTlv d ∷ []) (endpointTlv own endpoint ++ networkTlv d) (rw (append-nil (networkTlv d)))
-    (encode-whole 3 (big32 own ++ big32 endpoint), (encode-whole 4 d, tt)) refl
+    (encode-whole 3 (big32 own ++ big32 endpoint), (encode-whole 4 d, tt)) (refl, (λ y. omega (arith, y, encode-type 4 d), tt))
     (omega (arith, length-append (endpointTlv own endpoint) (networkTlv d), endpoint-length own endpoint, encode-length 4 d))
 
 -- what goes out after settling is announced with the digest just taken

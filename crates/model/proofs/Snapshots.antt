@@ -10,7 +10,7 @@ use lib.ListN.{length, take, drop, getD, length-append, length-drop, take-append
 use lib.Seq.{take-suc, take-append-seam, drop-append-seam, drop-drop, length-take-le}
 use lib.Dec.{eqb, ltb, leb}
 use borrow.Author.Tests.{le-ltb, lt-ltb, ltb-true, ltb-false, le-leb, lt-leb, leb-true, eqb-true, ne-eqb}
-use Rattle.base.specs.Lists.{joinAll, orElse, isSome, All}
+use Rattle.base.specs.Lists.{joinAll, orElse, consTo, isSome, All}
 use Rattle.base.specs.Bytes.{Bytes, mostU32}
 use Rattle.base.specs.Memory.{written}
 use Rattle.base.specs.Sorted.{find, Above, Ascending}
@@ -25,7 +25,7 @@ use Rattle.model.specs.Sequence.{circle}
 use Rattle.model.specs.Table.{Entry, entryOf, idOf, ageAt, look}
 use Rattle.model.specs.State.{State}
 use Rattle.model.specs.Invariant.{EntryFits, SnapshotFits, Valid}
-use Rattle.model.specs.Snapshot.{Snapshot, saveEntry, saved, reads, consTo, loadEntries, holdsOwn, load}
+use Rattle.model.specs.Snapshot.{Snapshot, saveEntry, saved, reads, loadEntries, holdsOwn, load}
 use Rattle.base.proofs.Options.{nothing, cond-yes, cond-no, or-else-some}
 use Rattle.base.proofs.Lists.{map-append, join-append, all-take}
 use Rattle.base.proofs.Written.{written-five}

@@ -17,26 +17,23 @@ use Rattle.base.proofs.Signed.{sum-append, sum-both, sum-zeros}
 use Rattle.wire.specs.declared.row.Header.{Header}
 use Rattle.wire.specs.Row.{typeOf, valueOf, row, tlvs}
 use Rattle.wire.specs.Order.{good}
-use Rattle.wire.specs.Payment.{Payment, mostHousehold, paymentTlv, readPayment, Payable}
-use Rattle.wire.specs.Answers.{Tells}
+use Rattle.wire.specs.Payment.{Payment, amountLimit, mostHousehold, paymentTlv, readPayment, Payable}
+use Rattle.wire.specs.Answers.{tlvOf, Tells}
 use Rattle.wire.proofs.Rows.{tlvs-end}
 use Rattle.wire.proofs.Good.{row-joined, good-fits, good-row, tlvs-few}
 use Rattle.wire.proofs.Encoded.{payment-whole, payment-type, payment-read}
-use Rattle.wire.proofs.Payments.{read-payable, amountLimit, payable-mag, mag-step, mag-sum}
+use Rattle.wire.proofs.Payments.{read-payable, payable-mag, mag-step, mag-sum}
 use Rattle.model.specs.Figures.{mostNodes, dataLimit}
 use Rattle.model.specs.Table.{Entry, Statement, statements}
 use Rattle.model.specs.Reach.{reached}
 use Rattle.model.specs.State.{State}
 use Rattle.model.specs.Invariant.{EntryFits, Valid}
-use Rattle.model.specs.Totals.{isPayment, paymentsIn, readable, unreadable, amounts, totalOf, sumOf, reachable, total, sum}
+use Rattle.model.specs.Totals.{isPayment, paymentsOf, paymentsIn, readable, unreadable, amounts, totalOf, sumOf, reachable, total, sum}
 use Rattle.base.proofs.Options.{by-option}
-use Rattle.base.proofs.Lists.{map-append, join-append, keep-append, all-keep, all-more, keep-few, map-same}
+use Rattle.base.proofs.Lists.{map-append, join-append, keep-append, keep-every, all-keep, all-more, keep-few, map-same}
 use Rattle.model.specs.Theorems.{upFrom, amountFor, unreadableOne, sumℕ, TotalsAddUp}
 
 -- ---- the payment TLVs, node by node and TLV by TLV
-
-abbrev pub paymentsOf : List ℕ → List (List ℕ)
-paymentsOf d = keep isPayment (tlvs d)
 
 pub payments-append : (ss us : List Statement) → paymentsIn (ss ++ us) ≡ paymentsIn ss ++ paymentsIn us
 unfolding paymentsIn
@@ -51,10 +48,10 @@ module _ (d : List ℕ) (at : ℕ) where
 
   module _ (h : Header) (k : Tells d at h) where
     pub payments-pass : (h .kind ≡ 40 → ⊥) → paymentsOf (drop at d) ≡ paymentsOf (drop (h .next) d)
-    payments-pass n = rw (k .left, ne-eqb (typeOf (take (h .next - at) (drop at d))) 40 (λ e. n (k .kind ∙ e)))
+    payments-pass n = rw (k .left, ne-eqb (typeOf (tlvOf d at h)) 40 (λ e. n (k .kind ∙ e)))
 
     pub payments-meet : h .kind ≡ 40 → paymentsOf (drop at d) ≡ take (h .next - at) (drop at d) ∷ paymentsOf (drop (h .next) d)
-    payments-meet e = rw (k .left, eq-eqb (typeOf (take (h .next - at) (drop at d))) 40 (sym (k .kind) ∙ e))
+    payments-meet e = rw (k .left, eq-eqb (typeOf (tlvOf d at h)) 40 (sym (k .kind) ∙ e))
 
 -- ---- readable and unreadable ones
 
@@ -167,13 +164,9 @@ module _ (h : ℕ) where
   pub total-nodes : (ss us : List Statement) → totalOf h (ss ++ us) ≡ totalOf h ss +ℤ totalOf h us
   total-nodes ss us = rw (total-is (ss ++ us), total-is ss, total-is us) (tally-nodes (ofHousehold h) ss us)
 
-keep-any : (ps : List Payment) → keep anyPayment ps ≡ ps
-keep-any [] = refl
-keep-any (p ∷ ps) = rw (keep-any ps)
-
 pub sum-is : (ss : List Statement) → sumOf ss ≡ tally anyPayment (paymentsIn ss)
 unfolding sumOf tally
-sum-is ss = rw (keep-any (readable (paymentsIn ss)))
+sum-is ss = rw (keep-every anyPayment (readable (paymentsIn ss)) (λ p. refl))
 
 -- a node that publishes one payment and no more: that amount is its household's total, and nothing is another's
 module _ (p : Payment) (k : Payable p) (s : Statement) (e : s .nodeData ≡ paymentTlv p) where

@@ -24,8 +24,8 @@ use Rattle.model.specs.State.{State}
 use Rattle.model.specs.Decide.{Received, receivedOf, decide, after}
 use Rattle.model.specs.Handle.{Context, Work, oneTlv, allTlvs}
 use Rattle.model.specs.Receive.{aboutOther, contextOf, startOf, handled}
-use Rattle.model.specs.Delivery.{statementOf, statementIn, accepted, distinct, Holds}
-use Rattle.model.specs.Traffic.{saying, saidIn, HeldAgain, heardIn, heardAll, Turn, turned, heardBy, turns, heardOver, othersOf, heldOrHeardBy, Traffic, TrafficLosesNothing}
+use Rattle.model.specs.Delivery.{saying, statementOf, statementIn, accepted, distinct, Holds}
+use Rattle.model.specs.Traffic.{saidIn, HeldAgain, heardIn, heardAll, Turn, turned, heardBy, turns, heardOver, othersOf, heldOrHeardBy, Traffic, TrafficLosesNothing}
 use Rattle.model.proofs.Merge.{nodeOf, saysOf, Sorted, Within, Agreed, Welcome, Newest, absorb, held, absorbed, newest-same, holds, more-distinct, no-more}
 use Rattle.model.proofs.OneCall.{seen, accepted-seen, refused-same, one-seen, on-state, on-foreign, carry-seen}
 use Rattle.model.proofs.KeptReceive.{receive-own}
@@ -92,8 +92,8 @@ module _ (all : List Statement) (a : Agreed all) (own : ℕ) (nodes : List ℕ) 
       }
 
   module _ (ys : List Statement) (s : State) (g : Going ys s) (w : Within ys all) where
-    rows : Sorted (statements (s .table))
-    rows = rw (ascending-map saysOf nodeOf (s .table)) (g .sorted)
+    sorted-says : Sorted (statements (s .table))
+    sorted-says = rw (ascending-map saysOf nodeOf (s .table)) (g .sorted)
 
     -- what stands of another node is known
     stood : (y : Statement) → In y (statements (s .table)) → ¬ (y .node ≡ own) → In y all
@@ -106,11 +106,11 @@ module _ (all : List Statement) (a : Agreed all) (own : ℕ) (nodes : List ℕ) 
         node-there y m =
             ⊎-elim (λ e. rw e (there x mx))
             (λ r. by-test (eqb (y .node) own) (λ b. rw (eqb-true (y .node) own b) mine) (λ b. there y (stood y (r .0) (eqb-false (y .node) own b))))
-            (insert-cases nodeOf x y (statements (s .table)) rows m)
+            (insert-cases nodeOf x y (statements (s .table)) sorted-says m)
 
         room : find nodeOf (x .node) (statements (s .table)) ≡ none → length (statements (s .table)) < mostNodes
         room f =
-            omega (arith, no-more (insert nodeOf x (statements (s .table))) nodes (insert-ascending nodeOf x (statements (s .table)) rows) node-there, insert-length nodeOf x (statements (s .table)) f, few)
+            omega (arith, no-more (insert nodeOf x (statements (s .table))) nodes (insert-ascending nodeOf x (statements (s .table)) sorted-says) node-there, insert-length nodeOf x (statements (s .table)) f, few)
 
     -- one statement more
     taken : (x : Statement) (r : State) → In x all → ¬ (x .node ≡ own) → r .own ≡ own → Ascending idOf (r .table)
@@ -121,7 +121,7 @@ module _ (all : List Statement) (a : Agreed all) (own : ℕ) (nodes : List ℕ) 
           sorted = h;
           newest =
               subst (Newest all a (ys ++ (x ∷ [])))
-              (sym (ap (apart own) (e (welcomed x mx n)) ∙ apart-absorb own x n (statements (s .table)) rows))
+              (sym (ap (apart own) (e (welcomed x mx n)) ∙ apart-absorb own x n (statements (s .table)) sorted-says))
               (absorbed all a x ys (apart own (statements (s .table))) mx w (g .newest));
         }
 

@@ -14,8 +14,8 @@ use Rattle.base.proofs.Tests.{by-test, no-way}
 use Rattle.base.proofs.Options.{by-option, by-or-else}
 use Rattle.base.proofs.Sorted.{find-inserted}
 use Rattle.sha256.specs.Sha256.{hash16}
-use Rattle.wire.specs.Row.{typeOf, valueOf, row, rowOf}
-use Rattle.wire.specs.Order.{ascending, good}
+use Rattle.wire.specs.Row.{typeOf, valueOf}
+use Rattle.wire.specs.Order.{good}
 use Rattle.wire.proofs.Ordering.{same-self}
 use Rattle.model.specs.Figures.{mostNodes, dataLimit, mostBytes, requestGap}
 use Rattle.model.specs.Sequence.{circle, half, offset, older}
@@ -24,6 +24,7 @@ use Rattle.model.specs.State.{State, Endpoint, endpointAt, withNext, noE
 use Rattle.model.specs.Messages.{requestNetworkTlv}
 use Rattle.model.specs.Decide.{Received, Decision, carriedIn, receivedOf, withData, withoutData, wantedNew, wantedHeld, differs, decide}
 use Rattle.model.specs.Handle.{Context, Work, piece, fits, mayAsk, hasAsked, askNetwork, touch, digestNow, onNetwork, onTlv, oneTlv, allTlvs}
+use Rattle.model.proofs.KeptCalls.{empty-good}
 use Rattle.model.proofs.Cases.{reply-fits, reply-full, ask-held, greet-full, carry-dropped, touch-none, touch-some, network-others, network-ask, on-network, on-network-short, one-tlv-unicast, one-tlv-multicast, receive-accepted}
 use Rattle.model.proofs.Refusals.{refusals-exact}
 use Rattle.model.proofs.KeptSteps.{reply-state}
@@ -98,11 +99,6 @@ counts-exact =
     }
 
 -- ---- an empty node
-
--- empty data is good
-empty-good : good dataLimit [] ≡ true
-unfolding good row rowOf ascending
-empty-good = refl
 
 new-empty : (clock : ℕ) (t : List Entry) (r : Received) → r .carried ≡ some [] → same (hash16 []) (r .hash) ≡ true → look (r .node) t ≡ none → length t < mostNodes
     → decide clock t r ≡ Decision.takeAll (entryOf (r .node) (r .seq) [] (r .age) clock)

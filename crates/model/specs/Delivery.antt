@@ -26,11 +26,15 @@ use Rattle.model.specs.Invariant.{Valid}
 
 -- ---- what is heard
 
+-- a Node State's node and number, with the data d
+abbrev pub saying : Received → List ℕ → Statement
+saying r d = record { node = r .node; seq = r .seq; nodeData = d }
+
 -- document 01: "a statement is a Node State .. that carries data, good and with matching H"
 abbrev pub statementOf : Received → Option Statement
 statementOf r =
     orElse (r .carried) none
-    (λ d. cond (good dataLimit d && same (hash16 d) (r .hash)) (some (record { node = r .node; seq = r .seq; nodeData = d })) none)
+    (λ d. cond (good dataLimit d && same (hash16 d) (r .hash)) (some (saying r d)) none)
 
 abbrev pub statementIn : List ℕ → Option Statement
 statementIn t = cond (eqb (typeOf t) 5 && leb 28 (length (valueOf t))) (statementOf (receivedOf (valueOf t))) none
@@ -111,9 +115,6 @@ pub record Holds (P : Statement → Type 0) (t : List Entry) : Type 0 where
   pub newest : (e : Entry) (x : Statement) → In e t → P x → x .node ≡ idOf e → ¬ (x .seq ≡ e .says .seq) → older (x .seq) (e .says .seq) ≡ true
   pub each : (x : Statement) → P x → (e : Entry) × In e t × (idOf e ≡ x .node)
 
-abbrev pub Kept : State → List Call → Type 0
-Kept s cs = Holds (λ x. In x (heldOrHeard s cs)) (run s cs .table)
-
 -- "two such lists .. that heard the same statements, whatever the order, repeats, readings and endpoints"
 abbrev pub SameHeard : State → List Call → List Call → Type 0
 SameHeard s cs ds = (x : Statement) → In x (heard s cs) ↔ In x (heard s ds)
@@ -131,5 +132,5 @@ pub record Alike (s : State) (cs ds : List Call) : Type 0 where
 
 -- the order of delivery can't lose a payment: both halves
 pub record OrderLosesNothing : Type 0 where
-  pub kept : (s : State) (cs : List Call) → Premises s cs → Kept s cs
+  pub kept : (s : State) (cs : List Call) → Premises s cs → Holds (λ x. In x (heldOrHeard s cs)) (run s cs .table)
   pub alike : (s : State) (cs ds : List Call) → Premises s cs → Premises s ds → SameHeard s cs ds → Alike s cs ds

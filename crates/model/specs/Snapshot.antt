@@ -6,7 +6,7 @@ use Prim.Native.Nat.{ℕ, zero, suc, _+_, min}
 use lib.ListN.{length, take, drop}
 use lib.Dec.{eqb, ltb, leb}
 use Rattle.base.specs.Bytes.{mostU32}
-use Rattle.base.specs.Lists.{keep, joinAll, orElse, isSome}
+use Rattle.base.specs.Lists.{keep, joinAll, orElse, consTo, isSome}
 use Rattle.wire.specs.Row.{typeOf, tlvs}
 use Rattle.wire.specs.Order.{good}
 use Rattle.wire.specs.Groups.{groups, readGroups}
@@ -51,11 +51,7 @@ save clock table room s =
 unfoldable pub reads : {X : Type 0} → ℕ → List ℕ → (ℕ → List ℕ → Option X) → Option X
 reads most s f = orElse (readGroups most s) none (λ r. f (r .number) (r .rest))
 
-abbrev pub consTo : Entry → Option (List Entry) → Option (List Entry)
-consTo e none = none
-consTo e (some t) = some (e ∷ t)
-
--- n entries with identifiers from `low` on, up to the end; ages count from the reading now
+-- n entries with identifiers from `low` on, up to the end; ages count from the reading `clock`
 unfoldable pub loadEntries : ℕ → ℕ → ℕ → List ℕ → Option (List Entry)
 loadEntries clock zero low [] = some []
 loadEntries clock zero low (x ∷ s) = none

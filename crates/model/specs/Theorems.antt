@@ -24,18 +24,18 @@ use Rattle.model.specs.Reach.{Vertex, vertices, levels, inReach, reached
 use Rattle.model.specs.Chain.{Chain}
 use Rattle.model.specs.Digest.{networkDigest}
 use Rattle.model.specs.Trickle.{Trickle}
-use Rattle.model.specs.State.{State, Endpoint, endpointAt, settle}
+use Rattle.model.specs.State.{State, Endpoint, endpointAt, ownData, settle}
 use Rattle.model.specs.Messages.{endpointTlv, networkTlv, shortState, wholeState}
 use Rattle.model.specs.Decide.{Received, Decision, receivedOf, decide}
 use Rattle.model.specs.Handle.{Context, Sender, Work, piece, reply, askNetwork, roomForPeer, greet, carryOut, oneTlv, allTlvs, onNetwork, digestNow}
 use Rattle.model.specs.Refusals.{Row, firstOf, late, back, noSuchEndpoint, smallTable, smallRoom, long, noRow, noHousehold, paidAlready, full, noSuchNode}
-use Rattle.model.specs.Begin.{begin, blank}
+use Rattle.model.specs.Begin.{begun, begin, blank}
 use Rattle.model.specs.Receive.{Call, contextOf, startOf, receive}
 use Rattle.model.specs.Tick.{tick, ticked}
 use Rattle.model.specs.Pay.{pay, purge}
-use Rattle.model.specs.Totals.{isPayment, totalOf, sumOf, paymentsIn, readable, unreadable, reachable, refusalTotal, total, refusalSum, sum}
+use Rattle.model.specs.Totals.{isPayment, paymentsOf, totalOf, sumOf, paymentsIn, readable, unreadable, reachable, refusalTotal, total, refusalSum, sum}
 use Rattle.model.specs.Show.{marks, refusalShow, shown}
-use Rattle.model.specs.Snapshot.{Snapshot, saved, save, load, noSnapshot, resume}
+use Rattle.model.specs.Snapshot.{Snapshot, saved, save, load, noSnapshot, resumed, resume}
 use Rattle.model.specs.Invariant.{Valid, SnapshotFits}
 use Rattle.model.specs.Examples.{examples}
 
@@ -121,9 +121,10 @@ pub record TotalsAddUp : Type 0 where
   pub counted : (ts : List (List ℕ)) → length (readable ts) + unreadable ts ≡ length ts
   pub count : (s : State) (clock : ℕ) → Valid s → unreadable (paymentsIn (reachable clock s)) ≤ 8192
 
--- 8. Everything sent is a row of whole TLVs, within 4,096 bytes, our Node Endpoint TLV first.
+-- 8. Everything sent is a row of whole TLVs, within 4,096 bytes: our Node Endpoint TLV first, then at least one TLV, and no further Node Endpoint TLV.
 pub record Form (own endpoint : ℕ) (bytes : List ℕ) : Type 0 where
-  pub sent : (bytes ≡ []) ⊎ ((ts : List (List ℕ)) × (row bytes ≡ some (endpointTlv own endpoint ∷ ts)))
+  pub sent : (bytes ≡ [])
+      ⊎ ((t : List ℕ) × (ts : List (List ℕ)) × (row bytes ≡ some (endpointTlv own endpoint ∷ t ∷ ts)) × All (λ u. ¬ (typeOf u ≡ 3)) (t ∷ ts))
   pub fits : length bytes ≤ mostBytes
 
 pub record SentForm : Type 0 where
@@ -197,6 +198,20 @@ pub record CountsExact : Type 0 where
   pub nodes : (c : Context) (w : Work)
       → carryOut c Decision.dropped w ≡ record { state = w .state; sender = w .sender; out = w .out; omitted = w .omitted; dropped = w .dropped + 1 }
   pub full : (clock : ℕ) (t : List Entry) (r : Received) → (decide clock t r ≡ Decision.dropped) ↔ ((look (r .node) t ≡ none) × (mostNodes ≤ length t))
+
+-- Our own payments stay: no datagram, tick or purge takes one away or brings one, and no refused payment; an accepted one joins them. A node that begins
+-- has none, and one that resumes has those of its snapshot.
+abbrev pub ownPayments : State → List (List ℕ)
+ownPayments s = paymentsOf (ownData s)
+
+pub record OwnPaymentsStay : Type 0 where
+  pub receives : (c : Call) (s : State) → ownPayments (receive c s .state) ≡ ownPayments s
+  pub ticks : (clock i : ℕ) (rs : List ℕ) (table room : ℕ) (s : State) → ownPayments (tick clock i rs table room s .state) ≡ ownPayments s
+  pub purges : (clock : ℕ) (rs : List ℕ) (table : ℕ) (s : State) → Valid s → ownPayments (purge clock rs table s .state) ≡ ownPayments s
+  pub pays : (clock : ℕ) (p : Payment) (rs : List ℕ) (table : ℕ) (s : State) → pay clock p rs table s .number ≡ 0
+      → (t : List ℕ) → In t (ownPayments (pay clock p rs table s .state)) ↔ (In t (ownPayments s) ⊎ (t ≡ paymentTlv p))
+  pub begins : (own clock : ℕ) (rs : List ℕ) → ownPayments (begun own clock rs) ≡ []
+  pub resumes : (clock : ℕ) (rs : List ℕ) (b : Snapshot) (e : Entry) → look (b .own) (b .entries) ≡ some e → ownPayments (resumed clock rs b) ≡ paymentsOf (e .says .nodeData)
 
 -- Only reachable nodes are served: what a TLV's handling writes is a row, every Node State of it is about a node reachable at that moment, and every
 -- Network State of it has the network digest at that moment.

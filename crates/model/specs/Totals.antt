@@ -17,9 +17,13 @@ use Rattle.model.specs.Refusals.{firstOf, late, back, smallTable, noHous
 abbrev pub isPayment : List ℕ → Bool
 isPayment t = eqb (typeOf t) 40
 
--- the payment TLVs that these nodes publish
+-- the payment TLVs of node data
+abbrev pub paymentsOf : List ℕ → List (List ℕ)
+paymentsOf d = keep isPayment (tlvs d)
+
+-- those that these nodes publish
 unfoldable pub paymentsIn : List Statement → List (List ℕ)
-paymentsIn ss = joinAll (map (λ s. keep isPayment (tlvs (s .nodeData))) ss)
+paymentsIn ss = joinAll (map (λ s. paymentsOf (s .nodeData)) ss)
 
 unfoldable pub readable : List (List ℕ) → List Payment
 readable [] = []

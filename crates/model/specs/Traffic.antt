@@ -23,12 +23,9 @@ use Rattle.model.specs.Receive.{Call, aboutOther, contextOf, startOf, re
 use Rattle.model.specs.Tick.{tick}
 use Rattle.model.specs.Pay.{pay}
 use Rattle.model.specs.Invariant.{Valid}
-use Rattle.model.specs.Delivery.{statementIn, accepted, distinct, Close, Holds}
+use Rattle.model.specs.Delivery.{saying, statementIn, accepted, distinct, Close, Holds}
 
 -- ---- what is heard
-
-abbrev pub saying : Received → List ℕ → Statement
-saying r d = record { node = r .node; seq = r .seq; nodeData = d }
 
 -- A Node State without data names a digest. Where that is the digest of the data that is held for its node, it says that this data has its number
 -- (document 01: "take number and age and keep the data"), and it is heard as that. Where it is another digest nothing is known of the data, and it is
@@ -49,7 +46,7 @@ unfoldable pub heardAll : Context → List (List ℕ) → Work → List Statemen
 heardAll c [] w = []
 heardAll c (t ∷ ts) w = heardIn (w .state) t ++ heardAll c ts (oneTlv c t w)
 
--- ---- the calls: all that change state but those that begin anew and the one that forgets. Calls that show or sum change nothing.
+-- ---- the calls: all that change state but those that start anew and the one that purges. Calls that show or sum change nothing.
 
 pub data Turn : Type 0 where
   receives : Call → Turn

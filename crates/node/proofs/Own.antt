@@ -18,9 +18,6 @@ held-found s m i k h g =
     no-way (isSome (look (s .own) (view (s .table) m))) h (ap isSome (look-gap (s .table) (k .table .arranged) (s .own) i m g))
 
 module _ (s : State) (m : List ℕ) (i : ℕ) (k : Rep s m) (h : Stands (s .table) (s .own) i) where
-  pub own-held : Held s m
-  own-held = ap isSome (look-stands (s .table) (k .table .arranged) (s .own) i m h)
-
   pub own-entry : ownEntry (stateOf s m) ≡ seen m (metaAt (s .table) i)
   unfolding ownEntry stateOf
   own-entry = rw (look-stands (s .table) (k .table .arranged) (s .own) i m h)

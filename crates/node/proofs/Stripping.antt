@@ -8,7 +8,7 @@ use native.Mathlib.Numerals.{add-one}
 use lib.ListN.{length, getD, take, drop, set, length-drop, length-append}
 use lib.Seq.{take-suc-set, drop-drop}
 use Rattle.base.specs.Bytes.{same}
-use Rattle.base.specs.Lists.{any, keepBy}
+use Rattle.base.specs.Lists.{keepBy}
 use Rattle.base.specs.Memory.{part, written}
 use Rattle.base.proofs.Lists.{take-drop-take, part-is}
 use Rattle.base.proofs.Marks.{not-at, keep-by-nil, keep-by-end, keep-by-next, keep-by-in, keep-by-out, keep-by-map}
@@ -24,6 +24,7 @@ use Rattle.model.specs.Sequence.{advance}
 use Rattle.model.specs.Table.{entryOf}
 use Rattle.model.specs.State.{State as ModelState, Peer as ModelPeer, ownSeq, ownData, peerTlv, publish, publishAs, withPeers}
 use Rattle.model.specs.Tick.{withoutPeers}
+use Rattle.model.proofs.KeptData.{names}
 use Rattle.table.specs.View.{metaAt, dataOf, Arranged, Kept, Read, Stands, Stored}
 use Rattle.table.specs.declared.Table.{Table}
 use Rattle.table.specs.declared.Entry.{Entry as Meta}
@@ -43,12 +44,9 @@ pub link-is : (p : Peer) {t : List ℕ} → t ≡ peerTlv (record { node = p .no
 unfolding peerTlv
 link-is p e = e
 
-abbrev named : List ModelPeer → List ℕ → Bool
-named ps t = any (λ p. same (peerTlv p) t) ps
-
 -- among those from place i on
 abbrev pub namedFrom : List Bool → Peers → ℕ → List ℕ → Bool
-namedFrom marks p i t = named (keepBy (drop i marks) (drop i (peersOf p))) t
+namedFrom marks p i t = names (keepBy (drop i marks) (drop i (peersOf p))) t
 
 module _ (marks : List Bool) (p : Peers) (k : PeersRep p) (t : List ℕ) (i : ℕ) where
   pub named-end : p .count ≤ i → namedFrom marks p i t ≡ false
@@ -79,11 +77,11 @@ module _ (ps : List ModelPeer) (d : List ℕ) where
   without-end e = rw (tlvs-end d e)
 
   module _ (t rest : List ℕ) (l : tlvs d ≡ t ∷ tlvs rest) where
-    without-gone : named ps t ≡ true → withoutPeers ps d ≡ withoutPeers ps rest
+    without-gone : names ps t ≡ true → withoutPeers ps d ≡ withoutPeers ps rest
     unfolding withoutPeers
     without-gone e = rw (l, e)
 
-    without-kept : named ps t ≡ false → withoutPeers ps d ≡ t ++ withoutPeers ps rest
+    without-kept : names ps t ≡ false → withoutPeers ps d ≡ t ++ withoutPeers ps rest
     unfolding withoutPeers
     without-kept e = rw (l, e)
 
@@ -144,9 +142,9 @@ module _ (ps : List ModelPeer) (m : List ℕ) (start len : ℕ) (room : start + 
       row-on : isRow (drop (x .next) (part m start len)) ≡ true
       row-on = rw (← ahead (x .next) (omega (arith, h .low, t .onward)) ends) (t .again)
 
-      module _ {b : Bool} (found : b ≡ named ps (take (start + x .next - (start + at)) (drop (start + at) m′))) where
-        e : b ≡ named ps (part m′ (start + at) (x .next - at))
-        e = found ∙ ap (named ps) (part-is m′ (start + at) (start + x .next) (x .next - at) (omega (arith, t .onward)))
+      module _ {b : Bool} (found : b ≡ names ps (take (start + x .next - (start + at)) (drop (start + at) m′))) where
+        e : b ≡ names ps (part m′ (start + at) (x .next - at))
+        e = found ∙ ap (names ps) (part-is m′ (start + at) (start + x .next) (x .next - at) (omega (arith, t .onward)))
 
         pub passed-gone : b ≡ true → Passed ps m start len (x .next) to m′
         passed-gone q =
@@ -225,7 +223,7 @@ module _ (s : State) (m : List ℕ) (k : Rep s m) (i : ℕ) (h : Stands (s .tabl
   unfolding withoutPeers
   left-fits =
       good-fits dataLimit (withoutPeers going (part m (e .slot * dataLimit) (e .len)))
-      (keep-good (λ t. not (named going t)) dataLimit (part m (e .slot * dataLimit) (e .len)) (rw own-part g))
+      (keep-good (λ t. not (names going t)) dataLimit (part m (e .slot * dataLimit) (e .len)) (rw own-part g))
 
   module _ (m′ : List ℕ) (n : ℕ)
       (w : (m′ ≡ written m (e .slot * dataLimit) (withoutPeers going (part m (e .slot * dataLimit) (e .len)))) × (n ≡ length (withoutPeers going (part m (e .slot * dataLimit) (e .len))))) where

@@ -11,13 +11,13 @@ use Rattle.base.specs.Lists.{any}
 use Rattle.base.specs.Bytes.{u32At}
 use Rattle.base.proofs.Tests.{by-test, and-left, and-right, and-no}
 use Rattle.wire.specs.Row.{typeOf, valueOf, tlvs}
-use Rattle.wire.specs.Answers.{Tells}
+use Rattle.wire.specs.Answers.{tlvOf, Tells}
 use Rattle.wire.specs.declared.row.Header.{Header}
 use Rattle.wire.proofs.Rows.{tlvs-end, value-length, value-number, value-first}
 use Rattle.model.specs.Reach.{Link as ModelLink, linkOf, isPeerTlv, links, matches, joined}
 use Rattle.reach.specs.declared.link.Link.{Link}
 use Rattle.base.proofs.Lists.{any-kept, any-same, any-never}
-use Rattle.reach.specs.Marks.{tlvOf, linkIn, joins}
+use Rattle.reach.specs.Marks.{linkIn, joins}
 
 -- ---- one TLV
 

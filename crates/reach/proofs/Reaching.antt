@@ -1,17 +1,18 @@
 -- The marks of the marking are those of the definition. Assumes nothing.
 use mathlib.Core.Path.{_≡_, sym, ap, _∙_}
 use mathlib.Core.Bool.{Bool, true, false, not}
-use mathlib.Core.List.{List, [], _∷_, _++_, map}
+use mathlib.Core.List.{List, _++_, map}
 use Prim.Native.Nat.{ℕ, _+_, _≤_, _<_}
 use native.Mathlib.Omega.{arith}
 use lib.ListN.{length, getD, set, replicate, length-set, length-replicate}
 use Rattle.base.specs.Lists.{any, keep, keepBy, joinAll, isSome}
-use Rattle.base.specs.Sorted.{Above, Ascending}
+use Rattle.base.specs.Sorted.{Ascending}
 use Rattle.base.proofs.Tests.{no-way}
 use Rattle.base.proofs.Lists.{keep-length}
+use Rattle.base.proofs.Sorted.{ascending-map}
 use Rattle.base.proofs.Places.{getD-any}
 use Rattle.model.specs.Figures.{mostNodes}
-use Rattle.model.specs.Table.{Entry, idOf, look, statements}
+use Rattle.model.specs.Table.{Entry, idOf, underAge, look, statements}
 use Rattle.model.specs.Digest.{digestOf, networkDigest}
 use Rattle.model.specs.State.{noEntry}
 use Rattle.model.specs.Reach.{Vertex, vertices, isNode, level0, others, levels, met, marked, inReach, reached}
@@ -29,13 +30,8 @@ use Rattle.reach.proofs.Waves.{levels-enough}
 abbrev nodeOf : Vertex → ℕ
 nodeOf v = v .says .node
 
-above-nodes : (clock n : ℕ) (t : List Entry) → Above idOf n t → Above nodeOf n (vertices clock t)
-above-nodes clock n [] h = tt
-above-nodes clock n (e ∷ t) h = (h .0, above-nodes clock n t (h .1))
-
 nodes-ascend : (clock : ℕ) (t : List Entry) → Ascending idOf t → Ascending nodeOf (vertices clock t)
-nodes-ascend clock [] h = tt
-nodes-ascend clock (e ∷ t) h = (above-nodes clock (idOf e) t (h .0), nodes-ascend clock t (h .1))
+nodes-ascend clock t h = rw (ascending-map (λ (e : Entry). record { says = e .says; young = underAge clock e }) nodeOf t) h
 
 module _ (own clock : ℕ) (t : List Entry) (a : Ascending idOf t) (few : length t ≤ mostNodes) where
   node-is : (i : ℕ) → i < length t → nodeOf (getD (vertices clock t) i noVertex) ≡ idOf (getD t i noEntry)

@@ -2,8 +2,8 @@
 use mathlib.Core.Path.{_≡_}
 use mathlib.Core.Bool.{Bool, false, not, _&&_, _||_}
 use mathlib.Core.List.{List, _++_, map}
-use Prim.Native.Nat.{ℕ, _-_, _≤_, _<_}
-use lib.ListN.{length, getD, take, drop}
+use Prim.Native.Nat.{ℕ, _≤_, _<_}
+use lib.ListN.{length, getD}
 use Rattle.base.specs.Lists.{any, keepBy, joinAll, All}
 use Rattle.model.specs.Figures.{mostNodes, tableBytes, lastReading}
 use Rattle.model.specs.Table.{Entry, idOf, underAge}
@@ -11,7 +11,6 @@ use Rattle.model.specs.Reach.{Link as ModelLink, Vertex, vertices, joined, touc
 use Rattle.model.specs.Digest.{networkDigest}
 use Rattle.model.specs.State.{noEntry}
 use Rattle.model.specs.Invariant.{EntryFits}
-use Rattle.wire.specs.declared.row.Header.{Header}
 use Rattle.table.specs.declared.Table.{Table}
 use Rattle.table.specs.declared.Entry.{Entry as Meta}
 use Rattle.table.specs.View.{seen, view, FitMeta, Kept}
@@ -19,10 +18,6 @@ use Rattle.reach.specs.declared.link.Link.{Link}
 use Rattle.reach.specs.declared.mark.Wave.{Wave}
 use Rattle.reach.specs.declared.mark.Traversed.{Traversed}
 use Rattle.reach.specs.declared.Reached.{Reached}
-
--- the bytes of the TLV that h tells of, at place `at` of s
-abbrev pub tlvOf : List ℕ → ℕ → Header → List ℕ
-tlvOf s at h = take (h .next - at) (drop at s)
 
 abbrev pub linkIn : Link → ModelLink
 linkIn l = record { peer = l .peer; peerEnd = l .peerend; ownEnd = l .ownend }

@@ -7,9 +7,9 @@ ghost use mathlib.Core.Bool.{true, _&&_};
 ghost use Prim.Native.Nat.{_≤_};
 ghost use lib.Dec.{eqb};
 ghost use Rattle.wire.specs.Row.{isRow, valueOf};
-ghost use Rattle.wire.specs.Answers.{Tells};
+ghost use Rattle.wire.specs.Answers.{tlvOf, Tells};
 ghost use Rattle.model.specs.Reach.{isPeerTlv, linkOf, matches};
-ghost use Rattle.reach.specs.Marks.{tlvOf, linkIn, joins};
+ghost use Rattle.reach.specs.Marks.{linkIn, joins};
 
 // A Peer TLV's peer, the peer's endpoint and the publisher's own.
 pub struct Link {

@@ -19,32 +19,39 @@ use Rattle.base.proofs.Tests.{by-test, by-order}
 use Rattle.base.proofs.Options.{by-option}
 use Rattle.base.proofs.Lists.{any-joined}
 use Rattle.wire.specs.Row.{valueOf}
-use Rattle.wire.specs.Payment.{Payment, Payable, readPayment}
-use Rattle.wire.specs.Answers.{Tells, asPayment}
+use Rattle.wire.specs.Payment.{Payment, Payable, amountLimit, readPayment}
+use Rattle.wire.specs.Answers.{tlvOf, Tells, asPayment}
 use Rattle.wire.specs.declared.payment.Paid.{Paid}
 use Rattle.wire.specs.declared.payment.Paid.the-variants.{Readable, Unreadable}
 use Rattle.wire.specs.declared.row.Header.{Header}
 use Rattle.wire.proofs.Payments.{read-payable, payable-mag, mag-step}
 use Rattle.model.specs.Figures.{dataLimit}
 use Rattle.model.specs.Table.{Statement}
-use Rattle.model.specs.Totals.{paymentsIn, readable, totalOf}
-use Rattle.model.proofs.Totals.{paymentsOf, payments-append, payments-end, payments-pass, payments-meet, readable-no, readable-yes, readable-append, tally, tally-none, tally-pass, tally-onward, ofHousehold, total-is, total-nodes}
-use Rattle.accounts.specs.Tallied.{alone, amountLimit, mostPayments}
-use Rattle.report.specs.Steps.{households, Wide, sumAt, markAt, Small, Behind, pays, addSum, addMark, Added, paidIn, Summed, Totals, Cleared}
+use Rattle.model.specs.Totals.{paymentsOf, paymentsIn, readable, totalOf}
+use Rattle.model.proofs.Totals.{payments-append, payments-end, payments-pass, payments-meet, readable-no, readable-yes, readable-append, tally, tally-none, tally-pass, tally-onward, ofHousehold, total-is, total-nodes}
+use Rattle.accounts.specs.Tallied.{alone, mostPayments}
+use Rattle.report.specs.Steps.{households, Wide, sumAt, markAt, Small, Behind, pays, addSum, addMark, Added, paidIn, SumsGrow, SumsAre, Cleared}
 
 -- ---- behind the households
 
 module _ (s₀ : List ℤ) (b₀ : List Bool) where
   pub behind-none : Behind s₀ b₀ s₀ b₀
-  behind-none = record { sums = refl; marks = refl }
+  behind-none = record { sums = refl; marks = refl; sumsLong = refl; marksLong = refl }
 
   module _ (s : List ℤ) (b : List Bool) (k : Behind s₀ b₀ s b) where
     -- a store for a household
     behind-set : (h : ℕ) (x : ℤ) (y : Bool) → h < households → Behind s₀ b₀ (set s h x) (set b h y)
-    behind-set h x y l = record { sums = drop-set-lt households s h x l ∙ k .sums; marks = drop-set-lt households b h y l ∙ k .marks }
+    behind-set h x y l =
+        record {
+          sums = drop-set-lt households s h x l ∙ k .sums;
+          marks = drop-set-lt households b h y l ∙ k .marks;
+          sumsLong = length-set s h x ∙ k .sumsLong;
+          marksLong = length-set b h y ∙ k .marksLong;
+        }
 
     pub behind-then : (s′ : List ℤ) (b′ : List Bool) → Behind s b s′ b′ → Behind s₀ b₀ s′ b′
-    behind-then s′ b′ j = record { sums = j .sums ∙ k .sums; marks = j .marks ∙ k .marks }
+    behind-then s′ b′ j =
+        record { sums = j .sums ∙ k .sums; marks = j .marks ∙ k .marks; sumsLong = j .sumsLong ∙ k .sumsLong; marksLong = j .marksLong ∙ k .marksLong }
 
 -- ---- cleared place by place
 
@@ -222,12 +229,12 @@ module _ (d : List ℕ) (s₀ : List ℤ) (b₀ : List Bool) where
 
       unread : h .kind ≡ 40 → readPayment (take (h .len) (drop (h .start) d)) ≡ none → readable (paymentsOf (drop at d)) ≡ readable (paymentsOf (drop (h .next) d))
       unread y r =
-          let q : readPayment (valueOf (take (h .next - at) (drop at d))) ≡ none = rw (t .value) r in
-          ap readable (payments-meet d at h t y) ∙ readable-no (take (h .next - at) (drop at d)) (paymentsOf (drop (h .next) d)) q
+          let q : readPayment (valueOf (tlvOf d at h)) ≡ none = rw (t .value) r in
+          ap readable (payments-meet d at h t y) ∙ readable-no (tlvOf d at h) (paymentsOf (drop (h .next) d)) q
 
       -- it pays p
       module _ (y : h .kind ≡ 40) (p : Payment) (r : readPayment (take (h .len) (drop (h .start) d)) ≡ some p) where
-        pays-p : readPayment (valueOf (take (h .next - at) (drop at d))) ≡ some p
+        pays-p : readPayment (valueOf (tlvOf d at h)) ≡ some p
         pays-p = rw (t .value) r
 
         left : paymentsOf (drop at d) ≡ take (h .next - at) (drop at d) ∷ paymentsOf (drop (h .next) d)
@@ -239,15 +246,15 @@ module _ (d : List ℕ) (s₀ : List ℤ) (b₀ : List Bool) where
             let l : households ≤ length s = g .wide .sums in
             by-test (ofHousehold x p)
             (λ e. rw (left, sum-own p x s e (omega arith))
-            (sym (tally-onward (ofHousehold x) (take (h .next - at) (drop at d)) (paymentsOf (drop (h .next) d)) p pays-p e (sumAt s x))))
-            (λ e. rw (left, sum-other p x s e, tally-pass (ofHousehold x) (take (h .next - at) (drop at d)) (paymentsOf (drop (h .next) d)) p pays-p e))
+            (sym (tally-onward (ofHousehold x) (tlvOf d at h) (paymentsOf (drop (h .next) d)) p pays-p e (sumAt s x))))
+            (λ e. rw (left, sum-other p x s e, tally-pass (ofHousehold x) (tlvOf d at h) (paymentsOf (drop (h .next) d)) p pays-p e))
 
         mark-on : (x : ℕ) → x < households
             → markAt (addMark (some p) b) x || any (ofHousehold x) (readable (paymentsOf (drop (h .next) d))) ≡ markAt b x || any (ofHousehold x) (readable (paymentsOf (drop at d)))
         mark-on x i =
             let l : households ≤ length b = g .wide .marks in
             let q : readable (paymentsOf (drop at d)) ≡ p ∷ readable (paymentsOf (drop (h .next) d)) =
-            ap readable left ∙ readable-yes (take (h .next - at) (drop at d)) (paymentsOf (drop (h .next) d)) p pays-p in
+            ap readable left ∙ readable-yes (tlvOf d at h) (paymentsOf (drop (h .next) d)) p pays-p in
             by-test (ofHousehold x p)
             (λ e. rw (q, e, mark-own p x b e (omega arith)) (sym (or-true (markAt b x))))
             (λ e. rw (q, e, mark-other p x b e))
@@ -278,7 +285,7 @@ module _ (d : List ℕ) (s₀ : List ℤ) (b₀ : List Bool) where
           (λ p e. rw (a .sums, a .marks, pays-read (h .kind) v y, e) (going-paid y p e)))
           (λ i. let n : h .kind ≡ 40 → ⊥ = eqb-false (h .kind) 40 i in off (pays-other (h .kind) v n) (ap readable (payments-pass d at h t n)))
 
-    pub going-end : length d ≤ at → Summed (alone d ∷ []) s₀ b₀ s b × Behind s₀ b₀ s b
+    pub going-end : length d ≤ at → SumsGrow (alone d ∷ []) s₀ b₀ s b × Behind s₀ b₀ s b
     going-end l =
         let e : paymentsOf (drop at d) ≡ [] = payments-end d at l in (
           record {
@@ -291,7 +298,7 @@ module _ (d : List ℕ) (s₀ : List ℤ) (b₀ : List Bool) where
 
 -- ---- node after node
 
-pub totals-none : (s : List ℤ) (b : List Bool) → Cleared s b → Totals [] s b
+pub totals-none : (s : List ℤ) (b : List Bool) → Cleared s b → SumsAre [] s b
 unfolding paymentsIn
 totals-none s b c =
     record {
@@ -304,7 +311,7 @@ paid-both ss us h =
     ap (λ (ts : List (List ℕ)). any (ofHousehold h) (readable ts)) (payments-append ss us)
     ∙ ap (any (ofHousehold h)) (readable-append (paymentsIn ss) (paymentsIn us)) ∙ any-joined (ofHousehold h) (readable (paymentsIn ss)) (readable (paymentsIn us))
 
-pub totals-then : (ss us : List Statement) (s : List ℤ) (b : List Bool) (s′ : List ℤ) (b′ : List Bool) → Totals ss s b → Summed us s b s′ b′ → Totals (ss ++ us) s′ b′
+pub totals-then : (ss us : List Statement) (s : List ℤ) (b : List Bool) (s′ : List ℤ) (b′ : List Bool) → SumsAre ss s b → SumsGrow us s b s′ b′ → SumsAre (ss ++ us) s′ b′
 totals-then ss us s b s′ b′ t u =
     record {
       sums = λ h i. u .sums h i ∙ rw (t .sums h i) (sym (total-nodes h ss us));
@@ -312,7 +319,7 @@ totals-then ss us s b s′ b′ t u =
     }
 
 -- only what a node publishes matters
-pub summed-says : (d : List ℕ) (x : Statement) (s : List ℤ) (b : List Bool) (s′ : List ℤ) (b′ : List Bool) → d ≡ x .nodeData → Summed (alone d ∷ []) s b s′ b′ → Summed (x ∷ []) s b s′ b′
+pub summed-says : (d : List ℕ) (x : Statement) (s : List ℤ) (b : List Bool) (s′ : List ℤ) (b′ : List Bool) → d ≡ x .nodeData → SumsGrow (alone d ∷ []) s b s′ b′ → SumsGrow (x ∷ []) s b s′ b′
 unfolding paymentsIn
 summed-says d x s b s′ b′ e u =
     record {

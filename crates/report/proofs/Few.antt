@@ -18,8 +18,8 @@ use Rattle.wire.specs.Payment.{Payment, readPayment}
 use Rattle.wire.proofs.Good.{Whole, Wholes, tlvs-whole, tlvs-joined, good-row, good-fits}
 use Rattle.model.specs.Figures.{dataLimit}
 use Rattle.model.specs.Table.{Entry, statements}
-use Rattle.model.specs.Totals.{isPayment, paymentsIn, readable}
-use Rattle.model.proofs.Totals.{paymentsOf, readable-append}
+use Rattle.model.specs.Totals.{isPayment, paymentsOf, paymentsIn, readable}
+use Rattle.model.proofs.Totals.{readable-append}
 use Rattle.table.specs.View.{AllGood}
 
 -- ---- a readable payment takes eight bytes at least

@@ -19,13 +19,13 @@ use Rattle.table.specs.declared.Table.{Table}
 use Rattle.table.specs.View.{blank, metaAt, dataOf, seen, view, Kept, AllGood}
 use Rattle.table.proofs.Tables.{view-length}
 use Rattle.accounts.specs.Tallied.{alone, mostPayments}
-use Rattle.report.specs.Steps.{Small, Cleared, Summed, Totals}
+use Rattle.report.specs.Steps.{Small, Cleared, SumsGrow, SumsAre}
 use Rattle.report.proofs.Adding.{totals-none, totals-then, summed-says}
 use Rattle.accounts.proofs.Sums.{meta-inside, meta-says}
 
 -- the marked nodes below place i are summed
 abbrev pub Below : List Bool → List Entry → List ℤ → List Bool → ℕ → Type 0
-Below marks t s b i = Totals (statements (keepBy marks (take i t))) s b
+Below marks t s b i = SumsAre (statements (keepBy marks (take i t))) s b
 
 module _ (marks : List Bool) (t : List Entry) (s : List ℤ) (b : List Bool) where
   below-start : Cleared s b → Below marks t s b 0
@@ -45,7 +45,7 @@ module _ (marks : List Bool) (t : List Entry) (s : List ℤ) (b : List Bool) whe
       below-stay : getD marks i false ≡ false → Below marks t s b (i + 1)
       below-stay k = rw (keep-by-out x marks t i p k) d
 
-      below-on : (n : List ℕ) (s′ : List ℤ) (b′ : List Bool) → getD marks i false ≡ true → n ≡ getD t i x .says .nodeData → Summed (alone n ∷ []) s b s′ b′
+      below-on : (n : List ℕ) (s′ : List ℤ) (b′ : List Bool) → getD marks i false ≡ true → n ≡ getD t i x .says .nodeData → SumsGrow (alone n ∷ []) s b s′ b′
           → Below marks t s′ b′ (i + 1)
       below-on n s′ b′ k e u =
           let es : List Entry = keepBy marks (take i t) in
@@ -53,7 +53,7 @@ module _ (marks : List Bool) (t : List Entry) (s : List ℤ) (b : List Bool) whe
           rw (keep-by-in x marks t i p k, map-append (λ (z : Entry). z .says) es (y ∷ []))
           (totals-then (statements es) (y .says ∷ []) s b s′ b′ d (summed-says n (y .says) s b s′ b′ e u))
 
-    below-end : length t ≤ i → Totals (statements (keepBy marks t)) s b
+    below-end : length t ≤ i → SumsAre (statements (keepBy marks t)) s b
     below-end l = rw (take-all i t l) at d
 
 -- ---- as the code goes over its table: entry by entry, each with its data in the table memory
@@ -71,8 +71,8 @@ module _ (t : Table) (m : List ℕ) (k : Kept t m) where
       sums-stay p q = below-stay marks (view t m) s b i d (seen m blank) (meta-inside t m k i p) q
 
       pub sums-on : i < t .count → getD marks i false ≡ true → (n : List ℕ) → n ≡ dataOf m (metaAt t i) → (s′ : List ℤ) (b′ : List Bool)
-          → Summed (alone n ∷ []) s b s′ b′ → Below marks (view t m) s′ b′ (i + 1)
+          → SumsGrow (alone n ∷ []) s b s′ b′ → Below marks (view t m) s′ b′ (i + 1)
       sums-on p q n e s′ b′ u = below-on marks (view t m) s b i d (seen m blank) (meta-inside t m k i p) n s′ b′ q (meta-says t m k i p n e) u
 
-      pub sums-end : t .count ≤ i → Totals (statements (keepBy marks (view t m))) s b
+      pub sums-end : t .count ≤ i → SumsAre (statements (keepBy marks (view t m))) s b
       sums-end l = below-end marks (view t m) s b i d (rw (view-length t (k .arranged) m) l)

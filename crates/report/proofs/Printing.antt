@@ -34,7 +34,8 @@ use Rattle.reach.proofs.Reaching.{reached-by}
 use Rattle.snapshot.specs.declared.load.Loaded.{Loaded}
 use Rattle.snapshot.specs.Answers.{LoadedFrom}
 use Rattle.report.specs.Report.{decimal, signed, heading, allName, line, refusedLine, upTo, report, printed, reportBytes, PrintedTo}
-use Rattle.report.specs.Steps.{Put, sumAt, markAt, paidIn, Behind, Totals, Filled, linesTo, lines}
+use Rattle.report.specs.Steps.{Put, sumAt, markAt, paidIn, Behind, SumsAre, Lent, linesTo, lines}
+use Rattle.report.proofs.Adding.{behind-none}
 use Rattle.report.proofs.Digits.{decimal-short, signed-short}
 use Rattle.report.proofs.Lines.{lines-same, lines-short, payers-few}
 use Rattle.report.proofs.Puts.{put-then, first-fits, second-fits}
@@ -48,7 +49,7 @@ pub report-is : (ss : List Statement) → report ss ≡ heading ++ (linesOf ss +
 unfolding report linesTo
 report-is ss = refl
 
-lines-are : (ss : List Statement) (s : List ℤ) (b : List Bool) → Totals ss s b → lines s b ≡ linesOf ss
+lines-are : (ss : List Statement) (s : List ℤ) (b : List Bool) → SumsAre ss s b → lines s b ≡ linesOf ss
 lines-are ss s b t = lines-same mostHousehold (sumAt s) (λ h. totalOf h ss) (markAt b) (paidIn ss) (λ h l. t .sums h (omega arith)) (λ h l. t .marks h (omega arith))
 
 -- ---- how long it can be: no sum of a table has more than 14 digits
@@ -91,7 +92,7 @@ module _ (es : List Entry) (g : AllGood es) (n : length es ≤ mostNodes) where
 
   -- ---- heading, lines and sum, one behind the other
 
-  module _ (room : List ℕ) (fits : reportBytes ≤ length room) (s : List ℤ) (b : List Bool) (d : Totals (statements es) s b)
+  module _ (room : List ℕ) (fits : reportBytes ≤ length room) (s : List ℤ) (b : List Bool) (d : SumsAre (statements es) s b)
       (room1 : List ℕ) (p1 : room1 ≡ written room 0 heading) (l1 : length room1 ≡ length room) where
     whole-is : report (statements es) ≡ heading ++ (lines s b ++ line allName (sumOf (statements es)))
     whole-is = report-is (statements es) ∙ ap (λ (l : List ℕ). heading ++ (l ++ line allName (sumOf (statements es)))) (sym (lines-are (statements es) s b d))
@@ -136,6 +137,7 @@ printed-to bytes room room′ r p h =
       within = rw (p .there) (omega (arith, written-length room (printed bytes) 0 (omega arith)));
       front = rw (p .there, e) (written-there room (printed bytes) 0 (omega arith));
       rest = rw (p .there) (written-above room (printed bytes) 0 (omega arith) r (omega arith));
+      room = rw (p .there) (written-length room (printed bytes) 0 (omega arith));
     }
 
 printed-none : (bytes : List ℕ) → isSome (load 0 bytes) ≡ false → printed bytes ≡ refusedLine
@@ -144,7 +146,7 @@ printed-none bytes e = by-option (load 0 bytes) (λ q. rw q) (λ b q. no-way tru
 
 module _ (bytes m : List ℕ) (f : Loaded) (m′ : List ℕ) (l : LoadedFrom 0 bytes m f m′) where
   pub refused-to : f .ok ≡ false → (room room′ : List ℕ) → reportBytes ≤ length room → room′ ≡ written room 0 refusedLine → (s : List ℤ) (b : List Bool)
-      → PrintedTo bytes room room′ 8 × Filled bytes m s b m′ s b
+      → PrintedTo bytes room room′ 8 × Lent bytes m s b m′ s b
   refused-to n room room′ h e s b =
       let no : isSome (load 0 bytes) ≡ false = sym (l .judged) ∙ n in
       let q : printed bytes ≡ refusedLine = printed-none bytes no in (
@@ -152,8 +154,7 @@ module _ (bytes m : List ℕ) (f : Loaded) (m′ : List ℕ) (l : LoadedFrom 0 b
         record {
           refused = λ o. (l .refused n, (refl, refl));
           totals = λ k o. no-way true refl (rw o at no);
-          sums = refl;
-          marks = refl;
+          behind = behind-none s b;
           lays = λ k o. no-way true refl (rw o at no);
           beyond = l .beyond;
           size = l .size;
@@ -178,15 +179,14 @@ module _ (bytes m : List ℕ) (f : Loaded) (m′ : List ℕ) (l : LoadedFrom 0 b
       unfolding printed
       loaded-printed = rw (l .loads ok, reached-by (f .own) 0 (view (f .table) m′) (r .marks) (a .marks))
 
-      loaded-filled : (s : List ℤ) (b : List Bool) (s′ : List ℤ) (b′ : List Bool) → Totals (statements (keepBy (r .marks) (view (f .table) m′))) s′ b′ → Behind s b s′ b′
-          → Filled bytes m s b m′ s′ b′
+      loaded-filled : (s : List ℤ) (b : List Bool) (s′ : List ℤ) (b′ : List Bool) → SumsAre (statements (keepBy (r .marks) (view (f .table) m′))) s′ b′ → Behind s b s′ b′
+          → Lent bytes m s b m′ s′ b′
       loaded-filled s b s′ b′ t k =
           record {
             refused = λ e. no-way (f .ok) ok (rw e at (l .judged));
             totals = λ x e. let q : x ≡ record { own = f .own; entries = view (f .table) m′ } = cc (l .loads ok) in
                 rw (q, ← reached-by (f .own) 0 (view (f .table) m′) (r .marks) (a .marks)) t;
-            sums = k .sums;
-            marks = k .marks;
+            behind = k;
             lays = λ x e. let q : x ≡ record { own = f .own; entries = view (f .table) m′ } = cc (l .loads ok) in
                 (f .table, (l .kept ok, rw q (refl, l .lays ok)));
             beyond = l .beyond;
@@ -194,8 +194,8 @@ module _ (bytes m : List ℕ) (f : Loaded) (m′ : List ℕ) (l : LoadedFrom 0 b
           }
 
       pub loaded-to : (room room′ : List ℕ) (n : ℕ) → reportBytes ≤ length room → (s : List ℤ) (b : List Bool) (s′ : List ℤ) (b′ : List Bool)
-          → Put (report (statements (keepBy (r .marks) (view (f .table) m′)))) room 0 room′ n × (Totals (statements (keepBy (r .marks) (view (f .table) m′))) s′ b′ × Behind s b s′ b′)
-          → PrintedTo bytes room room′ n × Filled bytes m s b m′ s′ b′
+          → Put (report (statements (keepBy (r .marks) (view (f .table) m′)))) room 0 room′ n × (SumsAre (statements (keepBy (r .marks) (view (f .table) m′))) s′ b′ × Behind s b s′ b′)
+          → PrintedTo bytes room room′ n × Lent bytes m s b m′ s′ b′
       loaded-to room room′ n h s b s′ b′ p = (
         printed-to bytes room room′ n (rw loaded-printed (p .0))
             (rw loaded-printed

@@ -61,7 +61,8 @@ abbrev pub reportBytes : ℕ
 reportBytes = 131072
 
 -- the report stands at the front of the room, and r is its length; the bytes after it stay
-pub record PrintedTo (bytes room room′ : List ℕ) (r : ℕ) : Type 0 where
-  pub within : r ≤ length room′
-  pub front : take r room′ ≡ printed bytes
-  pub rest : drop r room′ ≡ drop r room
+pub record PrintedTo (bytes q q′ : List ℕ) (r : ℕ) : Type 0 where
+  pub within : r ≤ length q′
+  pub front : take r q′ ≡ printed bytes
+  pub rest : drop r q′ ≡ drop r q
+  pub room : length q′ ≡ length q

@@ -10,7 +10,7 @@ use lib.IntN.{ℤ, pos, _+ℤ_}
 use lib.Signed.{mag}
 use Rattle.base.specs.Lists.{any, keep, joinAll}
 use Rattle.base.specs.Memory.{written}
-use Rattle.wire.specs.Payment.{Payment, mostHousehold, readPayment}
+use Rattle.wire.specs.Payment.{Payment, amountLimit, mostHousehold, readPayment}
 use Rattle.model.specs.Figures.{tableBytes}
 use Rattle.model.specs.Table.{Statement, statements}
 use Rattle.model.specs.Reach.{reached}
@@ -18,7 +18,6 @@ use Rattle.model.specs.Snapshot.{Snapshot, load}
 use Rattle.model.specs.Totals.{paymentsIn, readable, totalOf}
 use Rattle.table.specs.declared.Table.{Table}
 use Rattle.table.specs.View.{view, Kept, Lays}
-use Rattle.accounts.specs.Tallied.{amountLimit}
 use Rattle.report.specs.Report.{decimal, line, upTo}
 
 -- the text s stands at place `at` of the room, r is the place after it, and every other byte stays
@@ -45,10 +44,12 @@ markAt b h = getD b h false
 pub record Small (k : ℕ) (s : List ℤ) : Type 0 where
   pub each : (h : ℕ) → h < households → mag (sumAt s h) ≤ k * amountLimit
 
--- what lies behind the households stays
+-- what lies behind the households stays, and so do the lengths
 pub record Behind (s : List ℤ) (b : List Bool) (s′ : List ℤ) (b′ : List Bool) : Type 0 where
   pub sums : drop households s′ ≡ drop households s
   pub marks : drop households b′ ≡ drop households b
+  pub sumsLong : length s′ ≡ length s
+  pub marksLong : length b′ ≡ length b
 
 -- nothing is summed yet
 pub record Cleared (s : List ℤ) (b : List Bool) : Type 0 where
@@ -81,22 +82,21 @@ abbrev pub paidIn : List Statement → ℕ → Bool
 paidIn ss h = any (λ p. eqb (p .household) h) (readable (paymentsIn ss))
 
 -- these nodes' payments more
-pub record Summed (ss : List Statement) (s : List ℤ) (b : List Bool) (s′ : List ℤ) (b′ : List Bool) : Type 0 where
+pub record SumsGrow (ss : List Statement) (s : List ℤ) (b : List Bool) (s′ : List ℤ) (b′ : List Bool) : Type 0 where
   pub sums : (h : ℕ) → h < households → sumAt s′ h ≡ sumAt s h +ℤ totalOf h ss
   pub marks : (h : ℕ) → h < households → markAt b′ h ≡ markAt b h || paidIn ss h
 
 -- these nodes' payments and no others
-pub record Totals (ss : List Statement) (s : List ℤ) (b : List Bool) : Type 0 where
+pub record SumsAre (ss : List Statement) (s : List ℤ) (b : List Bool) : Type 0 where
   pub sums : (h : ℕ) → h < households → sumAt s h ≡ totalOf h ss
   pub marks : (h : ℕ) → h < households → markAt b h ≡ paidIn ss h
 
 -- the lent memory besides the room: as it was where the snapshot is refused; else a sum and a mark for each household are those of its reachable nodes,
 -- its entries' data are laid in the table memory, each in a slot of its own, and all that lies behind or between them stays
-pub record Filled (bytes m : List ℕ) (s : List ℤ) (b : List Bool) (m′ : List ℕ) (s′ : List ℤ) (b′ : List Bool) : Type 0 where
+pub record Lent (bytes m : List ℕ) (s : List ℤ) (b : List Bool) (m′ : List ℕ) (s′ : List ℤ) (b′ : List Bool) : Type 0 where
   pub refused : load 0 bytes ≡ none → (m′ ≡ m) × ((s′ ≡ s) × (b′ ≡ b))
-  pub totals : (k : Snapshot) → load 0 bytes ≡ some k → Totals (statements (reached (k .own) 0 (k .entries))) s′ b′
-  pub sums : drop households s′ ≡ drop households s
-  pub marks : drop households b′ ≡ drop households b
+  pub totals : (k : Snapshot) → load 0 bytes ≡ some k → SumsAre (statements (reached (k .own) 0 (k .entries))) s′ b′
+  pub behind : Behind s b s′ b′
   pub lays : (k : Snapshot) → load 0 bytes ≡ some k → (t : Table) × (Kept t m′ × ((view t m′ ≡ k .entries) × Lays m (k .entries) t m′))
   pub beyond : drop tableBytes m′ ≡ drop tableBytes m
   pub size : length m′ ≡ length m

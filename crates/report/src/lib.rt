@@ -18,7 +18,7 @@ ghost use Rattle.model.specs.Figures.{tableBytes};
 ghost use Rattle.model.specs.Table.{statements};
 ghost use Rattle.table.specs.View.{view, Kept, AllGood};
 ghost use Rattle.report.specs.Report.{report, reportBytes, PrintedTo};
-ghost use Rattle.report.specs.Steps.{Put, Wide, Behind, Totals, Filled, households, lines};
+ghost use Rattle.report.specs.Steps.{Put, Wide, Behind, SumsAre, Lent, households, lines};
 
 // A line for each household that paid, ascending.
 fn put_lines(sums: &[i64], paid: &[bool], room: &mut [u8], at: usize) -> usize
@@ -46,7 +46,7 @@ fn put_report(
     room: &mut [u8],
 ) -> usize
     requires { ⌜ Kept t (now mem) × (AllGood (view t (now mem)) × (Wide (now sums) (now paid) × (reportBytes ≤ length (now room)))) ⌝ }
-    ensures { λ r. ⌜ Put (report (statements (keepBy marks (view t (now (mem .entry)))))) (now (room .entry)) 0 (now (room .exit)) r × (Totals (statements (keepBy marks (view t (now (mem .entry))))) (now (sums .exit)) (now (paid .exit)) × Behind (now (sums .entry)) (now (paid .entry)) (now (sums .exit)) (now (paid .exit))) ⌝ }
+    ensures { λ r. ⌜ Put (report (statements (keepBy marks (view t (now (mem .entry)))))) (now (room .entry)) 0 (now (room .exit)) r × (SumsAre (statements (keepBy marks (view t (now (mem .entry))))) (now (sums .exit)) (now (paid .exit)) × Behind (now (sums .entry)) (now (paid .entry)) (now (sums .exit)) (now (paid .exit))) ⌝ }
 {
     sum_up(t, mem, marks, sums, paid);
     let all = tally(
@@ -72,7 +72,7 @@ pub fn report(
     room: &mut [u8],
 ) -> usize
     requires { ⌜ (tableBytes ≤ length (now mem)) × ((households ≤ length (now sums)) × ((households ≤ length (now paid)) × (reportBytes ≤ length (now room)))) ⌝ }
-    ensures { λ r. ⌜ PrintedTo (now (bytes .entry)) (now (room .entry)) (now (room .exit)) r × Filled (now (bytes .entry)) (now (mem .entry)) (now (sums .entry)) (now (paid .entry)) (now (mem .exit)) (now (sums .exit)) (now (paid .exit)) ⌝ }
+    ensures { λ r. ⌜ PrintedTo (now (bytes .entry)) (now (room .entry)) (now (room .exit)) r × Lent (now (bytes .entry)) (now (mem .entry)) (now (sums .entry)) (now (paid .entry)) (now (mem .exit)) (now (sums .exit)) (now (paid .exit)) ⌝ }
 {
     let found = load(bytes, mem, 0);
     if !found.ok {

@@ -14,7 +14,7 @@ ghost use Rattle.model.specs.Figures.{dataLimit};
 ghost use Rattle.model.specs.Table.{statements};
 ghost use Rattle.table.specs.View.{view, Kept, AllGood};
 ghost use Rattle.accounts.specs.Tallied.{mostPayments, alone};
-ghost use Rattle.report.specs.Steps.{Wide, Small, Behind, Cleared, pays, Added, Summed, Totals};
+ghost use Rattle.report.specs.Steps.{Wide, Small, Behind, Cleared, pays, Added, SumsGrow, SumsAre};
 
 // Numbers 0 to the highest household: a place for each in the lent sums.
 pub const HOUSEHOLDS: usize = 10000;
@@ -57,7 +57,7 @@ fn add_tlv(sums: &mut [i64], paid: &mut [bool], kind: u16, value: &[u8])
 // One node's data more.
 fn add_data(sums: &mut [i64], paid: &mut [bool], nd: &[u8])
     requires { ⌜ Wide (now sums) (now paid) × (Small mostPayments (now sums) × (good dataLimit (now nd) ≡ true)) ⌝ }
-    ensures { λ r. ⌜ Summed (alone (now (nd .entry)) ∷ []) (now (sums .entry)) (now (paid .entry)) (now (sums .exit)) (now (paid .exit)) × Behind (now (sums .entry)) (now (paid .entry)) (now (sums .exit)) (now (paid .exit)) ⌝ }
+    ensures { λ r. ⌜ SumsGrow (alone (now (nd .entry)) ∷ []) (now (sums .entry)) (now (paid .entry)) (now (sums .exit)) (now (paid .exit)) × Behind (now (sums .entry)) (now (paid .entry)) (now (sums .exit)) (now (paid .exit)) ⌝ }
 {
     let mut at = 0;
     while at < nd.len() {
@@ -72,7 +72,7 @@ fn add_data(sums: &mut [i64], paid: &mut [bool], nd: &[u8])
 // The sums over the marked nodes.
 pub fn sum_up(t: Table, mem: &[u8], marks: [bool; 32], sums: &mut [i64], paid: &mut [bool])
     requires { ⌜ Kept t (now mem) × (AllGood (view t (now mem)) × Wide (now sums) (now paid)) ⌝ }
-    ensures { λ r. ⌜ Totals (statements (keepBy marks (view t (now (mem .entry))))) (now (sums .exit)) (now (paid .exit)) × Behind (now (sums .entry)) (now (paid .entry)) (now (sums .exit)) (now (paid .exit)) ⌝ }
+    ensures { λ r. ⌜ SumsAre (statements (keepBy marks (view t (now (mem .entry))))) (now (sums .exit)) (now (paid .exit)) × Behind (now (sums .entry)) (now (paid .entry)) (now (sums .exit)) (now (paid .exit)) ⌝ }
 {
     clear(sums, paid);
     let count = t.count;

@@ -6,14 +6,14 @@ use mathlib.Core.Option.{Option, none, some}
 use Prim.Native.Nat.{ℕ, _+_, _-_, _≤_, _<_}
 use native.Mathlib.Omega.{arith}
 use lib.ListN.{length, take, drop, length-drop, length-append}
-use Rattle.base.specs.Lists.{orElse, isSome, All}
+use Rattle.base.specs.Lists.{orElse, consTo, isSome, All}
 use Rattle.base.specs.Sorted.{find}
 use Rattle.base.proofs.Tests.{no-way, by-order}
 use Rattle.base.proofs.Lists.{all-more}
 use Rattle.base.proofs.Sorted.{find-yes, find-no, insert-last}
 use Rattle.model.specs.Figures.{tableBytes}
 use Rattle.model.specs.Table.{Entry, entryOf, idOf, look, put}
-use Rattle.model.specs.Snapshot.{consTo, loadEntries, holdsOwn, load}
+use Rattle.model.specs.Snapshot.{loadEntries, holdsOwn, load}
 use Rattle.model.proofs.Snapshots.{last-end, last-more, onto, onto-start, onto-next, onto-end}
 use Rattle.table.specs.declared.Table.{Table}
 use Rattle.table.specs.View.{metaAt, view, Kept, Lays, Gap, Stored}

@@ -6,12 +6,12 @@ use mathlib.Core.Option.{none, some}
 use Prim.Native.Nat.{ℕ, _+_, _≤_, _<_}
 use lib.ListN.{length, take, drop}
 use Rattle.base.specs.Bytes.{mostU32}
-use Rattle.base.specs.Lists.{orElse, isSome}
+use Rattle.base.specs.Lists.{orElse, consTo, isSome}
 use Rattle.base.specs.Memory.{written}
 use Rattle.wire.specs.Order.{good}
 use Rattle.model.specs.Figures.{mostNodes, dataLimit, tableBytes, mostAge}
 use Rattle.model.specs.Table.{entryOf}
-use Rattle.model.specs.Snapshot.{consTo, loadEntries, holdsOwn, load}
+use Rattle.model.specs.Snapshot.{loadEntries, holdsOwn, load}
 use Rattle.table.specs.View.{view, Kept, Lays}
 use Rattle.snapshot.specs.declared.read.EntryRead.{EntryRead}
 use Rattle.snapshot.specs.declared.read.EntryRead.the-variants.{Whole, NoEntry}

@@ -156,6 +156,12 @@ kept-wrote t r m s k =
       };
     }
 
+-- a table that is written once more, each entry in its slot, is there already
+pub wrote-again : (t r : Table) (m m′ : List ℕ) → Kept t m → Wrote t m (view t m) r m′ → m′ ≡ m
+wrote-again t r m m′ k w =
+    let v : Wrote t m (view t m) t m = kept-wrote t t m (stays-self t) k in
+    w .lays .memory ∙ laid-stays t r (w .slots) (view t m) (v .lays .housed) m ∙ sym (v .lays .memory)
+
 -- ---- an entry stored
 
 -- two nodes have two slots

@@ -12,12 +12,13 @@ use lib.Dec.{eqb}
 use borrow.Author.Tests.{eqb-true, eqb-false}
 use lib.Seq.{take-suc-set, take-set-le, getD-take, drop-cons, append-snoc, getD-at, getD-set-same, take-set-lt, take-at, length-take-le}
 use mathlib.Core.Logic.{inl, inr}
-use Rattle.base.specs.Lists.{keep, keepBy, In, All}
+use Rattle.base.specs.Lists.{keepBy, In, All}
 use Rattle.base.specs.Memory.{part, written, spliced, cut}
 use Rattle.base.specs.Sorted.{find, insert, Above, Ascending}
 use Rattle.base.proofs.Tests.{by-test, by-order}
 use Rattle.base.proofs.Lists.{all-keep-by, in-keep-by}
-use Rattle.base.proofs.Sorted.{above-less, insert-lt, insert-eq, insert-gt, insert-ascending, find-no, find-none, find-some, by-find, one-each, find-map, find-inserted, find-other, all-insert}
+use Rattle.base.proofs.Marks.{keep-by-nil}
+use Rattle.base.proofs.Sorted.{above-less, insert-lt, insert-eq, insert-gt, insert-ascending, find-no, find-none, find-some, by-find, one-each, ascending-map, find-map, find-inserted, find-other, all-insert}
 use Rattle.base.proofs.Places.{find-at, insert-over, insert-between, all-at, getD-any, pigeons}
 use Rattle.base.proofs.Written.{part-length, part-there, spliced-length, cut-length, other-slot, written-outside, same-outside, written-above, written-there, written-length}
 use Rattle.sha256.specs.Sha256.{hash16}
@@ -31,13 +32,8 @@ use Rattle.table.specs.declared.Entry.{Entry as Meta}
 
 -- ---- seen in the model
 
-above-seen : (m : List ℕ) (n : ℕ) (l : List Meta) → Above metaId n l → Above idOf n (map (seen m) l)
-above-seen m n [] h = tt
-above-seen m n (e ∷ l) h = (h .0, above-seen m n l (h .1))
-
 pub seen-ascending : (m : List ℕ) (l : List Meta) → Ascending metaId l → Ascending idOf (map (seen m) l)
-seen-ascending m [] h = tt
-seen-ascending m (e ∷ l) h = (above-seen m (e .id) l (h .0), seen-ascending m l (h .1))
+seen-ascending m l h = rw (ascending-map (seen m) idOf l) h
 
 seen-meta : (m m′ : List ℕ) (e : Meta) → dataOf m′ e ≡ dataOf m e → seen m′ e ≡ seen m e
 seen-meta m m′ e q = ap (λ (d : List ℕ). entryOf (e .id) (e .seq) d (e .age) (e .since)) q
@@ -479,12 +475,8 @@ keep-step bs l ns i j p q r = rw (add-one i, drop-cons bs i false p, drop-cons l
     go true = rw (add-one j, take-suc-set ns j (getD l i blank) r) (append-snoc (take j ns) (getD l i blank) (keepBy (drop (suc i) bs) (drop (suc i) l)))
     go false = rw (take-set-le j ns j (getD l i blank) (omega arith))
 
-keep-none : (bs : List Bool) → keepBy {A = Meta} bs [] ≡ []
-keep-none [] = refl
-keep-none (b ∷ bs) = refl
-
 pub keep-end : (bs : List Bool) (l ns : List Meta) (i j : ℕ) → length l ≤ i → take j ns ++ keepBy (drop i bs) (drop i l) ≡ take j ns
-keep-end bs l ns i j p = rw (drop-of-length-le l {i = i} p, keep-none (drop i bs)) (append-nil (take j ns))
+keep-end bs l ns i j p = rw (drop-of-length-le l {i = i} p, keep-by-nil (drop i bs)) (append-nil (take j ns))
 
 pub cond-most : (b : Bool) (j i : ℕ) → j ≤ i → cond b (j + 1) j ≤ i + 1
 cond-most true j i p = omega arith

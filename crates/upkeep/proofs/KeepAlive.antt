@@ -12,7 +12,7 @@ use Rattle.base.specs.Bytes.{u32At}
 use Rattle.base.proofs.Tests.{by-test, and-left, and-right}
 use Rattle.wire.specs.Row.{typeOf, valueOf, isRow, tlvs}
 use Rattle.wire.specs.Order.{good}
-use Rattle.wire.specs.Answers.{Tells}
+use Rattle.wire.specs.Answers.{tlvOf, Tells}
 use Rattle.wire.specs.declared.row.Header.{Header}
 use Rattle.wire.proofs.Rows.{tlvs-end, value-length, value-number, value-first}
 use Rattle.wire.proofs.Good.{good-row}
@@ -23,7 +23,6 @@ use Rattle.model.specs.Tick.{isKeepAlive, intervalIn, intervalOf, silentFor, go
 use Rattle.table.specs.View.{dataOf, metaAt, view, Kept, Stands, Gap, AllGood}
 use Rattle.table.specs.declared.Table.{Table}
 use Rattle.table.proofs.Tables.{look-stands, look-gap, view-each}
-use Rattle.reach.specs.Marks.{tlvOf}
 
 -- ---- one TLV
 

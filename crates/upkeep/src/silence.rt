@@ -18,14 +18,13 @@ ghost use Prim.Native.Nat.{_≤_, _<_};
 ghost use lib.Dec.{leb};
 ghost use Rattle.base.specs.Lists.{any};
 ghost use Rattle.wire.specs.Row.{isRow};
-ghost use Rattle.wire.specs.Answers.{Tells};
+ghost use Rattle.wire.specs.Answers.{tlvOf, Tells};
 ghost use Rattle.model.specs.Figures.{refreshAge, lastReading};
 ghost use Rattle.model.specs.Table.{ageAt};
 ghost use Rattle.model.specs.State.{ownEntry};
 ghost use Rattle.model.specs.Tick.{isKeepAlive, intervalIn, intervalOf, silentFor, goes, dropSilent};
 ghost use Rattle.model.specs.Invariant.{Midway};
 ghost use Rattle.table.specs.View.{view, Kept, AllGood};
-ghost use Rattle.reach.specs.Marks.{tlvOf};
 ghost use Rattle.node.specs.View.{peerOf, stateOf, Rep, Published};
 ghost use Rattle.upkeep.specs.Ticked.{Lent, Scanned, Going};
 

@@ -1,6 +1,6 @@
 -- Good node data, and a TLV put in its place. Assumes nothing.
 use mathlib.Core.Path.{_≡_, refl, sym, ap, _∙_}
-use mathlib.Core.Bool.{Bool, true, false, _&&_, and-false, or-true}
+use mathlib.Core.Bool.{Bool, true, false, _&&_, and-false}
 use mathlib.Core.List.{List, [], _∷_, _++_, append-assoc}
 use mathlib.Core.Option.{Option, none, some}
 use mathlib.Core.Logic.{_⊎_, inl, inr, ⊎-elim}
@@ -11,16 +11,16 @@ use lib.Seq.{take-take, length-take-le, drop-drop, take-add, take-append-seam, d
 use lib.Dec.{leb}
 use borrow.Author.Tests.{le-leb, lt-leb, leb-true}
 use Rattle.base.specs.Bytes.{Bytes, u16At, zeros, same}
-use Rattle.base.specs.Lists.{orElse, joinAll, keep, In}
-use Rattle.wire.specs.Row.{lengthOf, padding, sizeOf, heads, consTo, row, isRow, tlvs}
+use Rattle.base.specs.Lists.{orElse, consTo, joinAll, keep, In}
+use Rattle.wire.specs.Row.{lengthOf, padding, sizeOf, heads, row, isRow, tlvs}
 use Rattle.wire.specs.Order.{before, climbs, ascending, good, place, among, without}
 use Rattle.wire.specs.declared.row.Header.{Header}
-use Rattle.wire.specs.Answers.{Tells, TlvAt}
+use Rattle.wire.specs.Answers.{tlvOf, Tells, TlvAt}
 use Rattle.base.proofs.Tests.{no-way, and-left, and-right, and-both, or-left, or-right, by-test}
 use Rattle.base.proofs.Bytes.{bytes-left, bytes-right}
 use Rattle.base.proofs.Lists.{drop-take}
 use Rattle.base.proofs.Written.{part-length}
-use Rattle.wire.proofs.Ordering.{before-some, before-either, before-trans, before-self, same-self, same-is}
+use Rattle.wire.proofs.Ordering.{before-some, before-either, before-trans, before-self, same-is}
 use Rattle.wire.proofs.Rows.{row-end, row-bad, row-on, size-least, heads-four, heads-fits, heads-zeros, heads-made, length-of-take, size-take, is-heads, is-rest, tlvs-on, tlvs-end}
 
 -- the row s goes on, ascending, after the TLV t
@@ -170,7 +170,7 @@ place-later : (t u : List ℕ) (us : List (List ℕ)) → before t u ≡ false �
 unfolding place
 place-later t u us b = rw b
 
-place-whole : (t : List ℕ) (us : List (List ℕ)) → Whole t → Wholes us → Wholes (place t us)
+pub place-whole : (t : List ℕ) (us : List (List ℕ)) → Whole t → Wholes us → Wholes (place t us)
 unfolding place
 place-whole t [] w ws = (w, tt)
 place-whole t (u ∷ us) w ws = by-test (before t u) (λ b. rw b (w, ws)) (λ b. rw b (ws .0, place-whole t us w (ws .1)))
@@ -245,31 +245,26 @@ module _ (d t : List ℕ) (at : ℕ) where
   put-end p = let e : length (drop at d) ≡ 0 = simp length-drop (omega arith) in rw (tlvs-end (drop at d) e, drop-of-length-le d {i = at} p)
 
   module _ (h : Header) (k : Tells d at h) (r : isRow (drop at d) ≡ true) where
-    pub put-here : before t (take (h .next - at) (drop at d)) ≡ true → take at d ++ joinAll (place t (tlvs (drop at d))) ≡ take at d ++ (t ++ drop at d)
+    pub put-here : before t (tlvOf d at h) ≡ true → take at d ++ joinAll (place t (tlvs (drop at d))) ≡ take at d ++ (t ++ drop at d)
     put-here b = let q : joinAll (tlvs (drop at d)) ≡ drop at d = tlvs-joined (drop at d) r in
-        ap (λ (x : List ℕ). take at d ++ x) (rw (k .left, place-here t (take (h .next - at) (drop at d)) (tlvs (drop (h .next) d)) b) (ap (λ (x : List ℕ). t ++ x) (rw (k .left) at q)))
+        ap (λ (x : List ℕ). take at d ++ x) (rw (k .left, place-here t (tlvOf d at h) (tlvs (drop (h .next) d)) b) (ap (λ (x : List ℕ). t ++ x) (rw (k .left) at q)))
 
-    pub put-later : before t (take (h .next - at) (drop at d)) ≡ false → take at d ++ joinAll (place t (tlvs (drop at d))) ≡ take (h .next) d ++ joinAll (place t (tlvs (drop (h .next) d)))
+    pub put-later : before t (tlvOf d at h) ≡ false → take at d ++ joinAll (place t (tlvs (drop at d))) ≡ take (h .next) d ++ joinAll (place t (tlvs (drop (h .next) d)))
     put-later b =
         let o : at < h .next = k .onward in
         let e : at + (h .next - at) ≡ h .next = omega arith in
         let q : take (at + (h .next - at)) d ≡ take at d ++ take (h .next - at) (drop at d) = take-add at (h .next - at) d in
-        rw (k .left, place-later t (take (h .next - at) (drop at d)) (tlvs (drop (h .next) d)) b)
-        (sym (append-assoc (take at d) (take (h .next - at) (drop at d)) (joinAll (place t (tlvs (drop (h .next) d)))))
+        rw (k .left, place-later t (tlvOf d at h) (tlvs (drop (h .next) d)) b)
+        (sym (append-assoc (take at d) (tlvOf d at h) (joinAll (place t (tlvs (drop (h .next) d)))))
         ∙ ap (λ (x : List ℕ). x ++ joinAll (place t (tlvs (drop (h .next) d)))) (sym (rw e at q)))
 
-    pub among-later : same t (take (h .next - at) (drop at d)) ≡ false → among t (tlvs (drop at d)) ≡ among t (tlvs (drop (h .next) d))
+    pub among-later : same t (tlvOf d at h) ≡ false → among t (tlvs (drop at d)) ≡ among t (tlvs (drop (h .next) d))
     unfolding among
     among-later b = rw (k .left, b)
 
   pub among-end : length d ≤ at → among t (tlvs (drop at d)) ≡ false
   unfolding among
   among-end p = let e : length (drop at d) ≡ 0 = simp length-drop (omega arith) in rw (tlvs-end (drop at d) e)
-
-pub among-placed : (t : List ℕ) (us : List (List ℕ)) → among t (place t us) ≡ true
-unfolding among place
-among-placed t [] = rw (same-self t)
-among-placed t (u ∷ us) = by-test (before t u) (λ q. rw (q, same-self t)) (λ q. rw (q, among-placed t us) (or-true (same t u)))
 
 -- ---- TLVs left out: what stays is good
 
@@ -344,32 +339,32 @@ ascending-tail u (v ∷ us) a = and-right (before u v) _ a
 -- the row d without t, from at on: what find_tlv's loop keeps
 module _ (d t : List ℕ) (at : ℕ) (h : Header) (k : Tells d at h) (a : ascending (tlvs (drop at d)) ≡ true) where
   pub ascending-on : ascending (tlvs (drop (h .next) d)) ≡ true
-  ascending-on = ascending-tail (take (h .next - at) (drop at d)) (tlvs (drop (h .next) d)) (rw (k .left) at a)
+  ascending-on = ascending-tail (tlvOf d at h) (tlvs (drop (h .next) d)) (rw (k .left) at a)
 
-  pub without-on : same t (take (h .next - at) (drop at d)) ≡ false
+  pub without-on : same t (tlvOf d at h) ≡ false
       → take at d ++ joinAll (without t (tlvs (drop at d))) ≡ take (h .next) d ++ joinAll (without t (tlvs (drop (h .next) d)))
   without-on b =
       let o : at < h .next = k .onward in
       let e : at + (h .next - at) ≡ h .next = omega arith in
       let q : take (at + (h .next - at)) d ≡ take at d ++ take (h .next - at) (drop at d) = take-add at (h .next - at) d in
-      rw (k .left, without-later t (take (h .next - at) (drop at d)) (tlvs (drop (h .next) d)) b)
-      (sym (append-assoc (take at d) (take (h .next - at) (drop at d)) (joinAll (without t (tlvs (drop (h .next) d)))))
+      rw (k .left, without-later t (tlvOf d at h) (tlvs (drop (h .next) d)) b)
+      (sym (append-assoc (take at d) (tlvOf d at h) (joinAll (without t (tlvs (drop (h .next) d)))))
       ∙ ap (λ (x : List ℕ). x ++ joinAll (without t (tlvs (drop (h .next) d)))) (sym (rw e at q)))
 
   -- the TLV is found
-  pub stands-here : same t (take (h .next - at) (drop at d)) ≡ true → isRow (drop at d) ≡ true → among t (tlvs d) ≡ among t (tlvs (drop at d))
+  pub stands-here : same t (tlvOf d at h) ≡ true → isRow (drop at d) ≡ true → among t (tlvs d) ≡ among t (tlvs (drop at d))
       → joinAll (without t (tlvs d)) ≡ take at d ++ joinAll (without t (tlvs (drop at d))) → TlvAt d t at
   unfolding among
   stands-here b r n w =
       let o : at < h .next = k .onward in
       let f : h .next ≤ length d = k .within in
-      let l : length t ≡ h .next - at = ap length (same-is t (take (h .next - at) (drop at d)) b) ∙ part-length d at (h .next - at) (omega arith) in
+      let l : length t ≡ h .next - at = ap length (same-is t (tlvOf d at h) b) ∙ part-length d at (h .next - at) (omega arith) in
       let e : at + length t ≡ h .next = omega arith in
       record {
         there = n ∙ rw (k .left, b);
         within = omega arith;
         rest = rw e (sym (w ∙ ap (λ (x : List ℕ). take at d ++ x)
-            (rw (k .left, without-here t (take (h .next - at) (drop at d)) (tlvs (drop (h .next) d)) b (rw (k .left) at a)) (tlvs-joined (drop (h .next) d) (k .again)))));
+            (rw (k .left, without-here t (tlvOf d at h) (tlvs (drop (h .next) d)) b (rw (k .left) at a)) (tlvs-joined (drop (h .next) d) (k .again)))));
       }
 
 -- ---- rows of whole TLVs
@@ -382,9 +377,6 @@ pub tlvs-row : (ts : List (List ℕ)) → Wholes ts → tlvs (joinAll ts) ≡ ts
 unfolding tlvs
 tlvs-row ts w = rw (row-joined ts w)
 
-pub keep-tlvs : (f : List ℕ → Bool) (d : List ℕ) → isRow d ≡ true → tlvs (joinAll (keep f (tlvs d))) ≡ keep f (tlvs d)
-keep-tlvs f d r = tlvs-row (keep f (tlvs d)) (keep-whole f (tlvs d) (tlvs-whole d r))
-
 module _ (t : List ℕ) where
   pub place-in : (u : List ℕ) (us : List (List ℕ)) → In u (place t us) → (u ≡ t) ⊎ In u us
   unfolding place
@@ -395,6 +387,12 @@ module _ (t : List ℕ) where
   unfolding place
   in-place u [] m = m
   in-place u (x ∷ us) m = by-test (before t x) (λ b. rw b m) (λ b. rw b (⊎-elim (λ e. inr (in-place u us (inl e))) (⊎-elim inl (λ r. inr (in-place u us (inr r)))) m))
+
+  -- a test that t does not meet
+  pub keep-place : (f : List ℕ → Bool) (us : List (List ℕ)) → f t ≡ false → keep f (place t us) ≡ keep f us
+  unfolding place
+  keep-place f [] n = rw n
+  keep-place f (u ∷ us) n = by-test (before t u) (λ b. rw (b, n)) (λ b. by-test (f u) (λ q. rw (b, q, keep-place f us n)) (λ q. rw (b, q, keep-place f us n)))
 
   pub among-in : (us : List (List ℕ)) → among t us ≡ true → In t us
   unfolding among
@@ -436,12 +434,12 @@ pub no-tlvs : (s : List ℕ) → isRow s ≡ false → tlvs s ≡ []
 unfolding isRow tlvs
 no-tlvs s r = none-found (row s) r
 
+-- whatever the bytes
+pub wholes-always : (s : List ℕ) → Wholes (tlvs s)
+wholes-always s = by-test (isRow s) (tlvs-whole s) (λ r. rw (no-tlvs s r) tt)
+
+pub keep-tlvs : (f : List ℕ → Bool) (d : List ℕ) → tlvs (joinAll (keep f (tlvs d))) ≡ keep f (tlvs d)
+keep-tlvs f d = tlvs-row (keep f (tlvs d)) (keep-whole f (tlvs d) (wholes-always d))
+
 pub tlvs-bytes : (s t : List ℕ) → Bytes s → In t (tlvs s) → Bytes t
 tlvs-bytes s t h m = by-test (isRow s) (λ r. bytes-part (tlvs s) t (rw (tlvs-joined s r) h) m) (λ r. absurd (rw (no-tlvs s r) at m))
-
--- a TLV that does not stand in node data is not taken out
-pub without-absent : (t : List ℕ) (us : List (List ℕ)) → among t us ≡ false → without t us ≡ us
-unfolding among without
-without-absent t [] h = refl
-without-absent t (u ∷ us) h =
-    rw (or-left (same t u) _ h) (ap (λ (x : List (List ℕ)). u ∷ x) (without-absent t us (or-right (same t u) _ h)))

@@ -16,7 +16,7 @@ use Rattle.base.specs.Bytes.{Bytes, mostU32}
 use Rattle.base.specs.Lists.{orElse, All}
 use Rattle.base.specs.Memory.{written}
 use Rattle.wire.specs.Groups.{Read, groups, readGroups}
-use Rattle.wire.specs.Payment.{Payment, Payable, mostHousehold, folded, unfolded, paymentValue, ended, readPayment}
+use Rattle.wire.specs.Payment.{Payment, Payable, amountLimit, mostHousehold, folded, unfolded, paymentValue, ended, readPayment}
 use Rattle.wire.specs.Answers.{asRead, Inside}
 use Rattle.base.specs.Signed.{sumℤ}
 use Rattle.base.proofs.Tests.{and-left, and-right, and-no, and-both, by-test}
@@ -192,10 +192,6 @@ read-payable v p e =
     (λ h eh kh. or-else-some (readGroups mostU32 (h .rest)) _ p kh
     (λ r er kr. or-else-some (readGroups mostU32 (r .rest)) _ p kr
     (λ a ea ka. ended-payable (h .number) (r .number) (a .number) (a .rest) p (read-most mostU32 (h .rest) r er) (read-most mostU32 (r .rest) a ea) ka)))
-
--- an amount has 31 bits and a sign
-abbrev pub amountLimit : ℕ
-amountLimit = 2147483648
 
 folded-mag : (x : ℤ) → folded x ≤ mostU32 → mag x < amountLimit
 folded-mag (pos n) h = omega arith

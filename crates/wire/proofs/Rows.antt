@@ -10,10 +10,10 @@ use lib.Seq.{take-take, drop-drop}
 use lib.Dec.{leb}
 use borrow.Author.Tests.{le-leb, lt-leb, leb-true}
 use Rattle.base.specs.Bytes.{u16At, u32At, zeros}
-use Rattle.base.specs.Lists.{orElse}
-use Rattle.wire.specs.Row.{typeOf, lengthOf, valueOf, padding, sizeOf, heads, consTo, rowOf, row, isRow, tlvs}
+use Rattle.base.specs.Lists.{orElse, consTo}
+use Rattle.wire.specs.Row.{typeOf, lengthOf, valueOf, padding, sizeOf, heads, rowOf, row, isRow, tlvs}
 use Rattle.wire.specs.declared.row.Header.{Header}
-use Rattle.wire.specs.Answers.{Size, Tells}
+use Rattle.wire.specs.Answers.{tlvOf, Size, Tells}
 use Rattle.base.proofs.Tests.{no-way, and-left, and-right, and-both, and-no, by-test}
 use Rattle.base.proofs.Bytes.{u16-drop, u16-take, u32-part}
 use Rattle.base.proofs.Lists.{drop-take, part-is}
@@ -211,13 +211,13 @@ module _ (s : List ℕ) (at : ℕ) where
 
 -- a TLV's value, by its header: as long as it says, and its numbers where the code reads them
 module _ (s : List ℕ) (at : ℕ) (h : Header) (k : Tells s at h) where
-  pub value-length : length (valueOf (take (h .next - at) (drop at s))) ≡ h .len
+  pub value-length : length (valueOf (tlvOf s at h)) ≡ h .len
   value-length = ap length (k .value) ∙ part-length s (h .start) (h .len) (omega (arith, k .inside, k .within))
 
-  pub value-number : (i : ℕ) → i + 4 ≤ h .len → u32At (valueOf (take (h .next - at) (drop at s))) i ≡ u32At s (h .start + i)
+  pub value-number : (i : ℕ) → i + 4 ≤ h .len → u32At (valueOf (tlvOf s at h)) i ≡ u32At s (h .start + i)
   value-number i l = rw (k .value) (u32-part s (h .len) (h .start) i l)
 
-  pub value-first : 4 ≤ h .len → u32At (valueOf (take (h .next - at) (drop at s))) 0 ≡ u32At s (h .start)
+  pub value-first : 4 ≤ h .len → u32At (valueOf (tlvOf s at h)) 0 ≡ u32At s (h .start)
   value-first l = let e : h .start + 0 ≡ h .start = omega arith in value-number 0 l ∙ rw e
 
 -- what the code finds at a place

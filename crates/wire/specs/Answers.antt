@@ -19,15 +19,19 @@ use Rattle.wire.specs.Row.{typeOf, valueOf, heads, sizeOf, isRow, tlvs}
 use Rattle.wire.specs.Groups.{Read}
 use Rattle.wire.specs.Payment.{Payment}
 
--- h tells the TLV that stands at place at of the row s: its bytes are those from there to h .next
+-- the bytes of the TLV that h tells of, at place `at` of s: from there to h .next
+abbrev pub tlvOf : List ℕ → ℕ → Header → List ℕ
+tlvOf s at h = take (h .next - at) (drop at s)
+
+-- h tells the TLV that stands at place at of the row s
 pub record Tells (s : List ℕ) (at : ℕ) (h : Header) : Type 0 where
-  pub kind : h .kind ≡ typeOf (take (h .next - at) (drop at s))
-  pub value : valueOf (take (h .next - at) (drop at s)) ≡ take (h .len) (drop (h .start) s)
+  pub kind : h .kind ≡ typeOf (tlvOf s at h)
+  pub value : valueOf (tlvOf s at h) ≡ take (h .len) (drop (h .start) s)
   pub start : h .start ≡ at + 4
   pub inside : h .start + h .len ≤ h .next
   pub onward : at < h .next
   pub within : h .next ≤ length s
-  pub left : tlvs (drop at s) ≡ take (h .next - at) (drop at s) ∷ tlvs (drop (h .next) s)
+  pub left : tlvs (drop at s) ≡ tlvOf s at h ∷ tlvs (drop (h .next) s)
   pub again : isRow (drop (h .next) s) ≡ true
 
 -- the number, and what of s comes after it

@@ -31,6 +31,10 @@ paymentValue p = groups (p .household) ++ (groups (p .receipt) ++ groups (folded
 unfoldable pub paymentTlv : Payment → List ℕ
 paymentTlv p = encode 40 (paymentValue p)
 
+-- "amount any signed 32-bit number": 31 bits and a sign
+abbrev pub amountLimit : ℕ
+amountLimit = 2147483648
+
 -- "Households 1 to 9,999"
 abbrev pub mostHousehold : ℕ
 mostHousehold = 9999

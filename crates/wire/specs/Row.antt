@@ -5,7 +5,7 @@ use mathlib.Core.Option.{Option, none, some}
 use Prim.Native.Nat.{ℕ, zero, suc, _+_, _-_, _%_}
 use lib.ListN.{length, take, drop}
 use lib.Dec.{leb}
-use Rattle.base.specs.Lists.{orElse}
+use Rattle.base.specs.Lists.{orElse, consTo}
 use Rattle.base.specs.Bytes.{u16At, big16, noughts, zeros}
 
 -- "Type 2 bytes, length 2 bytes, value": of the TLV that stands at the head of s
@@ -29,10 +29,6 @@ sizeOf s = 4 + (lengthOf s + padding (lengthOf s))
 -- a whole TLV with zero padding stands at the head of s
 unfoldable pub heads : List ℕ → Bool
 heads s = leb 4 (length s) && (leb (sizeOf s) (length s) && zeros (take (padding (lengthOf s)) (drop (4 + lengthOf s) s)))
-
-abbrev pub consTo : List ℕ → Option (List (List ℕ)) → Option (List (List ℕ))
-consTo t none = none
-consTo t (some ts) = some (t ∷ ts)
 
 -- "a row of whole TLVs with zero padding": its TLVs; the count bounds how many
 unfoldable pub rowOf : ℕ → List ℕ → Option (List (List ℕ))

@@ -6,7 +6,7 @@ use native.Mathlib.Omega.{arith}
 use Rattle.table.specs.View.{view}
 use Rattle.accounts.proofs.totals.tally.Statement.{statement}
 use Rattle.accounts.proofs.totals.tally.Tie as tie
-use Rattle.accounts.proofs.Sums.{AddedBelow, table-start, row-good, metas-room, metas-stay, metas-on, metas-end}
+use Rattle.accounts.proofs.Sums.{AddedBelow, table-start, meta-good, metas-room, metas-stay, metas-on, metas-end}
 
 abbrev Inv-loop : tie.InvT-loop
 Inv-loop t mem w marks count r₀ i₀ r i = (i ≤ count) × AddedBelow w marks (view t mem) r i
@@ -29,7 +29,7 @@ add-data-requires c κs =
     let p = c .before .before .before .before .before .pre in
     let v = c .before .before .before .loop in (
       metas-room (a .t) (a .mem .now) (p .0) (a .w) (a .t3) (v .r) (v .i) (v .inv .1) (p .1) (c .before .before .loop-test .taken),
-      row-good (a .t) (a .mem .now) (p .0) (p .1) (v .i) (c .before .before .loop-test .taken) (c .data-of .result .now) (c .data-of .ensures .0),
+      meta-good (a .t) (a .mem .now) (p .0) (p .1) (v .i) (c .before .before .loop-test .taken) (c .data-of .result .now) (c .data-of .ensures .0),
     )
 
 add-i : tie.Need-add-i Inv-loop μ-loop

@@ -4,9 +4,9 @@ use mathlib.Core.Path.{refl, sym, _∙_}
 use Prim.Native.Nat.{_+_, _-_}
 use native.Mathlib.Omega.{arith}
 use lib.ListN.{length}
+use Rattle.wire.specs.Answers.{tlvOf}
 use Rattle.base.proofs.Bytes.{bytes-known}
 use Rattle.base.proofs.Lists.{part-is}
-use Rattle.reach.specs.Marks.{tlvOf}
 use Rattle.exchange.proofs.datagram.all_tlvs.Statement.{statement}
 use Rattle.exchange.proofs.datagram.all_tlvs.Tie as tie
 use Rattle.exchange.proofs.Tlvs.{Through, through-start, through-on, through-end}

@@ -6,7 +6,7 @@ use Prim.Native.Nat.{_-_, _≤_}
 use native.Mathlib.Omega.{arith}
 use lib.ListN.{length}
 use Rattle.table.specs.View.{view}
-use Rattle.accounts.proofs.Sums.{row-good}
+use Rattle.accounts.proofs.Sums.{meta-good}
 use Rattle.report.specs.Steps.{Behind}
 use Rattle.report.proofs.Adding.{behind-none, behind-then}
 use Rattle.report.proofs.Marking.{Below, sums-start, sums-room, sums-stay, sums-on, sums-end}
@@ -43,7 +43,7 @@ add-data-requires c κs =
       record { sums = omega (arith, p .1 .1 .sums, v .inv .1 .0, k .0); marks = omega (arith, p .1 .1 .marks, v .inv .1 .1 .0, k .1 .0) },
       (
         sums-room (a .t) (a .mem .now) (p .0) (a .t3) (v .sums) (v .paid) (v .i) (v .inv .1 .1 .1 .0) (p .1 .0) (c .before .before .before .before .loop-test .taken),
-        row-good (a .t) (a .mem .now) (p .0) (p .1 .0) (v .i) (c .before .before .before .before .loop-test .taken) (c .data-of .result .now) (c .data-of .ensures .0),
+        meta-good (a .t) (a .mem .now) (p .0) (p .1 .0) (v .i) (c .before .before .before .before .loop-test .taken) (c .data-of .result .now) (c .data-of .ensures .0),
       ),
     )
 
