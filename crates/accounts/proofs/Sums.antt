@@ -31,9 +31,9 @@ use Rattle.model.specs.Table.{Entry, Statement, statements}
 use Rattle.model.specs.Totals.{totalOf, sumOf, unreadable, paymentsOf, paymentsIn}
 use Rattle.model.proofs.Totals.{payments-append, payments-counted, payments-good, payments-node, unreadable-append, tally, tally-none, tally-append, tally-mag, ofHousehold, total-is, sum-is, Summing, summing-start, summing-end, summing-pass, summing-unreadable, summing-skip, summing-pick}
 use Rattle.table.specs.declared.Table.{Table}
-use Rattle.table.specs.View.{blank, metaAt, dataOf, seen, view, Kept, AllGood}
+use Rattle.table.specs.View.{noMeta, metaAt, dataOf, seen, view, Kept, AllGood}
 use Rattle.table.proofs.Tables.{view-length, view-at, view-each}
-use Rattle.accounts.specs.Tallied.{sumFor, Tallied, counted, addPaid, addTlv, Added, alone, mostPayments, Room}
+use Rattle.accounts.specs.Tallied.{sumFor, Tallied, counted, addPaid, addTlv, Added, publishing, mostPayments, Room}
 use Rattle.accounts.specs.declared.totals.Whose.{Whose}
 use Rattle.accounts.specs.declared.totals.Total.{Total}
 
@@ -147,23 +147,23 @@ module _ (w : Whose) (d : List ℕ) (t : Total) where
         (λ i. let n : h .kind ≡ 40 → ⊥ = eqb-false (h .kind) 40 i in
         rw (add-other w (h .kind) b r n) (summing-pass f d mostPayments at (r .value) (r .unread) _ _ s h k n))
 
-    pub data-end : length d ≤ at → Added w (alone d ∷ []) t r
+    pub data-end : length d ≤ at → Added w (publishing d ∷ []) t r
     data-end l =
         let e = summing-end (picked w) d mostPayments at (r .value) (r .unread) _ _ s l in
         record {
-          value = e .0 ∙ ap (λ (x : ℤ). t .value +ℤ x) (sym (sum-for w (alone d ∷ []) ∙ ap (tally (picked w)) (payments-node (alone d))));
-          unread = e .1 ∙ ap (λ (ts : List (List ℕ)). t .unread + unreadable ts) (sym (payments-node (alone d)));
+          value = e .0 ∙ ap (λ (x : ℤ). t .value +ℤ x) (sym (sum-for w (publishing d ∷ []) ∙ ap (tally (picked w)) (payments-node (publishing d))));
+          unread = e .1 ∙ ap (λ (ts : List (List ℕ)). t .unread + unreadable ts) (sym (payments-node (publishing d)));
         }
 
 -- ---- node after node: sums over some nodes, and over others after them
 
 module _ (w : Whose) where
   -- only what a node publishes matters
-  added-says : (d : List ℕ) (s : Statement) (t r : Total) → d ≡ s .nodeData → Added w (alone d ∷ []) t r → Added w (s ∷ []) t r
+  added-says : (d : List ℕ) (s : Statement) (t r : Total) → d ≡ s .nodeData → Added w (publishing d ∷ []) t r → Added w (s ∷ []) t r
   added-says d s t r e a =
-      let q : paymentsIn (alone d ∷ []) ≡ paymentsIn (s ∷ []) = payments-node (alone d) ∙ ap paymentsOf e ∙ sym (payments-node s) in
+      let q : paymentsIn (publishing d ∷ []) ≡ paymentsIn (s ∷ []) = payments-node (publishing d) ∙ ap paymentsOf e ∙ sym (payments-node s) in
       record {
-        value = a .value ∙ ap (λ (x : ℤ). t .value +ℤ x) (sum-for w (alone d ∷ []) ∙ ap (tally (picked w)) q ∙ sym (sum-for w (s ∷ [])));
+        value = a .value ∙ ap (λ (x : ℤ). t .value +ℤ x) (sum-for w (publishing d ∷ []) ∙ ap (tally (picked w)) q ∙ sym (sum-for w (s ∷ [])));
         unread = a .unread ∙ ap (λ (ts : List (List ℕ)). t .unread + unreadable ts) q;
       }
 
@@ -216,7 +216,7 @@ module _ (w : Whose) (marks : List Bool) (t : List Entry) where
       table-stay : getD marks i false ≡ false → AddedBelow w marks t r (i + 1)
       table-stay b = rw (keep-by-out x marks t i p b) s
 
-      table-on : (d : List ℕ) (q : Total) → getD marks i false ≡ true → d ≡ getD t i x .says .nodeData → Added w (alone d ∷ []) r q → AddedBelow w marks t q (i + 1)
+      table-on : (d : List ℕ) (q : Total) → getD marks i false ≡ true → d ≡ getD t i x .says .nodeData → Added w (publishing d ∷ []) r q → AddedBelow w marks t q (i + 1)
       table-on d q b n a =
           let es : List Entry = keepBy marks (take i t) in
           let e : Entry = getD t i x in
@@ -232,7 +232,7 @@ module _ (t : Table) (m : List ℕ) (k : Kept t m) where
   pub meta-inside : (i : ℕ) → i < t .count → i < length (view t m)
   meta-inside i p = rw (view-length t (k .arranged) m) p
 
-  pub meta-says : (i : ℕ) → i < t .count → (d : List ℕ) → d ≡ dataOf m (metaAt t i) → d ≡ getD (view t m) i (seen m blank) .says .nodeData
+  pub meta-says : (i : ℕ) → i < t .count → (d : List ℕ) → d ≡ dataOf m (metaAt t i) → d ≡ getD (view t m) i (seen m noMeta) .says .nodeData
   meta-says i p d e = e ∙ ap (λ (x : Entry). x .says .nodeData) (sym (view-at t (k .arranged) m i p))
 
   pub meta-good : AllGood (view t m) → (i : ℕ) → i < t .count → (d : List ℕ) → d ≡ dataOf m (metaAt t i) → good dataLimit d ≡ true
@@ -243,11 +243,11 @@ module _ (t : Table) (m : List ℕ) (k : Kept t m) where
     metas-room g p = table-room w marks (view t m) r i s g (omega (arith, k .arranged .most))
 
     pub metas-stay : (q : Total) → i < t .count → getD marks i false ≡ false → q ≡ r → AddedBelow w marks (view t m) q (i + 1)
-    metas-stay q p b e = rw e (table-stay w marks (view t m) r i s (seen m blank) (meta-inside i p) b)
+    metas-stay q p b e = rw e (table-stay w marks (view t m) r i s (seen m noMeta) (meta-inside i p) b)
 
     pub metas-on : (q : Total) → i < t .count → getD marks i false ≡ true → (d : List ℕ) → d ≡ dataOf m (metaAt t i)
-        → (u : Total) → Added w (alone d ∷ []) r u → q ≡ u → AddedBelow w marks (view t m) q (i + 1)
-    metas-on q p b d e u a n = rw n (table-on w marks (view t m) r i s (seen m blank) (meta-inside i p) d u b (meta-says i p d e) a)
+        → (u : Total) → Added w (publishing d ∷ []) r u → q ≡ u → AddedBelow w marks (view t m) q (i + 1)
+    metas-on q p b d e u a n = rw n (table-on w marks (view t m) r i s (seen m noMeta) (meta-inside i p) d u b (meta-says i p d e) a)
 
     pub metas-end : t .count ≤ i → Tallied w (statements (keepBy marks (view t m))) r
     metas-end l = table-end w marks (view t m) r i s (rw (view-length t (k .arranged) m) l)

@@ -1,4 +1,4 @@
--- What a sum over nodes answers, and what a payment or a purge leaves. Assumes nothing.
+-- What a sum over nodes answers: a payment, a TLV and a node more. Assumes nothing.
 use mathlib.Core.Path.{_≡_}
 use mathlib.Core.Bool.{Bool, cond, _||_}
 use mathlib.Core.List.{List}
@@ -47,8 +47,8 @@ pub record Added (w : Whose) (ss : List Statement) (t r : Total) : Type 0 where
   pub unread : r .unread ≡ t .unread + unreadable (paymentsIn ss)
 
 -- the statement of a node that publishes d: its identifier and number do not matter
-abbrev pub alone : List ℕ → Statement
-alone d = record { node = 0; seq = 0; nodeData = d }
+abbrev pub publishing : List ℕ → Statement
+publishing d = record { node = 0; seq = 0; nodeData = d }
 
 -- a TLV has 4 bytes at least, so that no more payments than these stand in a table
 abbrev pub mostPayments : ℕ

@@ -9,6 +9,7 @@ ghost use Rattle.model.specs.Invariant.{Midway};
 ghost use Rattle.table.specs.View.{SlotsStay};
 ghost use Rattle.node.specs.View.{stateOf, Rep, Moved};
 
+// Only the reachable nodes stay; what stands last in a call follows.
 pub fn purge(s: State, mem: &[u8], clock: u64, randoms: [u32; 4]) -> State
     requires { ⌜ Rep s (now mem) × (Midway clock (stateOf s (now mem)) × (clock ≤ lastReading)) ⌝ }
     ensures { λ r. ⌜ Moved (purged clock randoms (stateOf s (now (mem .entry)))) (now (mem .entry)) r (now (mem .entry)) × SlotsStay (r .table) (s .table) ⌝ }

@@ -13,7 +13,7 @@ ghost use Rattle.wire.specs.Order.{good};
 ghost use Rattle.model.specs.Figures.{dataLimit};
 ghost use Rattle.model.specs.Table.{statements};
 ghost use Rattle.table.specs.View.{view, Kept, AllGood};
-ghost use Rattle.accounts.specs.Tallied.{counted, mostPayments, Room, addTlv, Added, Tallied, alone};
+ghost use Rattle.accounts.specs.Tallied.{counted, mostPayments, Room, addTlv, Added, Tallied, publishing};
 
 // Whose payments are summed: every household's, or one's.
 pub struct Whose {
@@ -70,7 +70,7 @@ fn is_counted(w: Whose, household: u32) -> bool
 // One node's data more.
 fn add_data(t: Total, w: Whose, nd: &[u8]) -> Total
     requires { ⌜ Room mostPayments t × (good dataLimit (now nd) ≡ true) ⌝ }
-    ensures { λ r. ⌜ Added w (alone (now (nd .entry)) ∷ []) t r ⌝ }
+    ensures { λ r. ⌜ Added w (publishing (now (nd .entry)) ∷ []) t r ⌝ }
 {
     let mut r = t;
     let mut at = 0;

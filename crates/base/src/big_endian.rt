@@ -36,6 +36,7 @@ pub fn read_u32(s: &[u8], at: usize) -> u32
         + wide32(s[at + 3])
 }
 
+// v in the two bytes from `at`.
 pub fn put_u16(d: &mut [u8], at: usize, v: u16)
     requires { ⌜ at + 2 ≤ length (now d) ⌝ }
     ensures { λ r. ⌜ now (d .exit) ≡ written (now (d .entry)) at (big16 v) ⌝ }
@@ -44,6 +45,7 @@ pub fn put_u16(d: &mut [u8], at: usize, v: u16)
     d[at + 1] = (v % 256) as u8;
 }
 
+// v in the four bytes from `at`.
 pub fn put_u32(d: &mut [u8], at: usize, v: u32)
     requires { ⌜ at + 4 ≤ length (now d) ⌝ }
     ensures { λ r. ⌜ now (d .exit) ≡ written (now (d .entry)) at (big32 v) ⌝ }

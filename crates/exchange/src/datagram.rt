@@ -78,7 +78,7 @@ fn all_tlvs(w: Work, mem: &mut [u8], room: &mut [u8], c: Context, datagram: &[u8
     v
 }
 
-// What a datagram leaves: the state, how many bytes were written, replies left out, TLVs dropped for room.
+// What a datagram leaves: the state, how many bytes were written, replies omitted, TLVs dropped.
 pub struct Outcome {
     pub state: State,
     pub length: usize,

@@ -15,7 +15,7 @@ ghost use Rattle.model.specs.Figures.{mostPeers, dataLimit, peerBytes};
 ghost use Rattle.model.specs.Handle.{greet, onEndpoint, touch};
 ghost use Rattle.reply.specs.View.{contextOf, Sound, Ready, Stepped};
 
-// Room for another peer: fewer than 16 stand, and our data has 16 bytes left.
+// Room for another peer: in the list of 16, and for its TLV of 16 bytes in our data.
 fn has_room(count: usize, len: usize) -> bool
     ensures { λ r. ⌜ r ≡ ltb count mostPeers && leb (len + peerBytes) dataLimit ⌝ }
 {

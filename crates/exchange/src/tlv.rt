@@ -26,7 +26,7 @@ fn is_handled(kind: u16) -> bool
     }
 }
 
-// A TLV of this type changes nothing: it is passed over, and no known sender's last contact is to be set.
+// A TLV of this type changes nothing: no rule handles it, and there is no last contact to set.
 pub fn is_idle(unicast: bool, known: bool, kind: u16) -> bool
     ensures { λ r. ⌜ r ≡ idle unicast known kind ⌝ }
 {
@@ -75,7 +75,7 @@ pub fn on_tlv(w: Work, mem: &mut [u8], room: &mut [u8], c: Context, kind: u16, v
     }
 }
 
-// The TLV of this type and value; over unicast it sets a known sender's last contact.
+// The TLV of this type and value; by unicast it also sets the sender's last contact, if that is a peer.
 pub fn one_tlv(
     w: Work,
     mem: &mut [u8],

@@ -17,7 +17,7 @@ use Rattle.model.specs.Digest.{networkDigest}
 use Rattle.model.specs.Show.{Marks as ModelMarks, refusalMarks, marks}
 use Rattle.table.specs.declared.Entry.{Entry as Meta}
 use Rattle.table.specs.declared.Table.{Table}
-use Rattle.table.specs.View.{blank, metaId, live, seen, view}
+use Rattle.table.specs.View.{noMeta, metaId, live, seen, view}
 use Rattle.reach.specs.declared.Reached.{Reached}
 use Rattle.reach.specs.Marks.{Reaching}
 use Rattle.reach.proofs.Reaching.{reached-by}
@@ -46,16 +46,16 @@ module _ (bs : List Bool) (l : List Meta) (list : List ℕ) (n i : ℕ) (g : Lis
   module _ (p : i < length l) where
     -- an entry that is not marked
     pub list-stay : getD bs i false ≡ false → ListedBelow bs l list n (i + 1)
-    list-stay b = record { size = g .size; most = omega (arith, g .most); is = g .is ∙ ap (map metaId) (sym (keep-by-out blank bs l i p b)); rest = g .rest }
+    list-stay b = record { size = g .size; most = omega (arith, g .most); is = g .is ∙ ap (map metaId) (sym (keep-by-out noMeta bs l i p b)); rest = g .rest }
 
     -- one more
-    pub list-on : (r : Meta) (x : List ℕ) → getD bs i false ≡ true → i < mostNodes → r ≡ getD l i blank → x ≡ set list n (r .id) → ListedBelow bs l x (n + 1) (i + 1)
+    pub list-on : (r : Meta) (x : List ℕ) → getD bs i false ≡ true → i < mostNodes → r ≡ getD l i noMeta → x ≡ set list n (r .id) → ListedBelow bs l x (n + 1) (i + 1)
     list-on r x b s q e =
         let w : n < length list = omega (arith, g .size, g .most) in
         record {
           size = ap length e ∙ length-set list n (r .id) ∙ g .size;
           most = omega (arith, g .most);
-          is = rw (e, add-one n, take-suc-set list n (r .id) w, g .is, keep-by-in blank bs l i p b, ← q) (sym (map-append metaId (keepBy bs (take i l)) (r ∷ [])));
+          is = rw (e, add-one n, take-suc-set list n (r .id) w, g .is, keep-by-in noMeta bs l i p b, ← q) (sym (map-append metaId (keepBy bs (take i l)) (r ∷ [])));
           rest =
               ap (drop (n + 1)) e ∙ drop-set-lt (n + 1) list n (r .id) (omega arith) ∙ sym (drop-drop 1 n list) ∙ ap (drop 1) (g .rest)
               ∙ fewer (mostNodes - n) (mostNodes - (n + 1)) (omega (arith, g .most));

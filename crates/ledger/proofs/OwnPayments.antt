@@ -31,7 +31,7 @@ use Rattle.ledger.specs.declared.answers.Done.{Done}
 use Rattle.ledger.specs.declared.answers.Saved.{Saved}
 use Rattle.ledger.specs.Promises.{AsLeft, Begins, Resumes, Saves}
 use Rattle.ledger.specs.Calls.{Look, PublicCall, Promised, stateAfter, memoryAfter, startsAnew, Trace, stateAtEnd, memoryAtEnd}
-use Rattle.ledger.specs.Returning.{bookOf}
+use Rattle.ledger.specs.Returning.{snapshotOf}
 use Rattle.ledger.specs.OwnPayments.{paymentsAt, paidBy, paidOver, PaidStays}
 use Rattle.ledger.proofs.Left.{not-small, not-small-room}
 use Rattle.ledger.proofs.Answering.{as-accepted}
@@ -100,10 +100,10 @@ begun own clock rs s m r h z =
     ∙ own-payments-stay .begins own clock rs
 
 -- our entry in what is saved
-book-own : (clock later : ℕ) (s : State) (m : List ℕ) → Valid (stateOf s m)
-    → look (bookOf clock later s m .own) (bookOf clock later s m .entries) ≡ some (capped clock later (ownEntry (stateOf s m)))
+saved-own : (clock later : ℕ) (s : State) (m : List ℕ) → Valid (stateOf s m)
+    → look (snapshotOf clock later s m .own) (snapshotOf clock later s m .entries) ≡ some (capped clock later (ownEntry (stateOf s m)))
 unfolding stateOf look
-book-own clock later s m v =
+saved-own clock later s m v =
     find-map (capped clock later) idOf (s .own) (view (s .table) m)
     ∙ ap (λ (o : Option Entry). orElse o none (λ e. some (capped clock later e))) (midway-held (stateOf s m) (v .inside))
 
@@ -114,8 +114,8 @@ unfolding stateOf
 resumed-has clock later rs s m q r q′ l h z fine u n d n′ room g =
     let a = numbers-exact .number (PublicCall.looks (Look.saves clock q r q′)) s m h .none .0 z in
     ap ownPayments (saved-comes-back .resumes clock later rs s m q r q′ l h z fine u n d n′ room g .1)
-    ∙ own-payments-stay .resumes later rs (bookOf clock later s m) (capped clock later (ownEntry (stateOf s m)))
-    (book-own clock later s m (l .valid (not-small-room (length m) (length q) snapshotBytes (a .1 .1 .0) .0)))
+    ∙ own-payments-stay .resumes later rs (snapshotOf clock later s m) (capped clock later (ownEntry (stateOf s m)))
+    (saved-own clock later s m (l .valid (not-small-room (length m) (length q) snapshotBytes (a .1 .1 .0) .0)))
 
 pub paid-stays : PaidStays
 paid-stays = record { kept = λ s m xs. kept xs s m; begun = begun; resumed = resumed-has }

@@ -25,7 +25,7 @@ use Rattle.ledger.specs.declared.answers.Done.{Done}
 use Rattle.ledger.specs.declared.answers.Saved.{Saved}
 use Rattle.ledger.specs.Promises.{AsLeft, Resumes, Saves}
 use Rattle.ledger.specs.Calls.{Look, PublicCall}
-use Rattle.ledger.specs.Returning.{bookOf, SavedComesBack}
+use Rattle.ledger.specs.Returning.{snapshotOf, SavedComesBack}
 use Rattle.ledger.proofs.Left.{room-accepted}
 use Rattle.ledger.proofs.Answering.{as-accepted}
 use Rattle.ledger.proofs.Numbers.{goes-late}
@@ -50,7 +50,7 @@ module _ (clock : ℕ) (s : State) (m q : List ℕ) (r : Saved) (q′ : List ℕ
   unfolding stateOf
   short = omega (arith, snapshots .room (stateOf s m) clock valid, ap length written, length-take-le (r .length) q′ (h .within))
 
-  loads : (later : ℕ) → load later (take (r .length) q′) ≡ some (bookOf clock later s m)
+  loads : (later : ℕ) → load later (take (r .length) q′) ≡ some (snapshotOf clock later s m)
   unfolding stateOf
   loads later =
       ap (load later) written ∙ snapshots .back (stateOf s m) clock later valid
@@ -75,10 +75,10 @@ module _ (later : ℕ) (bytes rs : List ℕ) (table : ℕ) (v : ModelState) (b :
 
 resumes : (clock later : ℕ) (rs : List ℕ) (s : State) (m q : List ℕ) (r : Saved) (q′ : List ℕ) → AsLeft s m → Saves clock s m q r q′ → r .number ≡ 0
     → later ≤ lastReading → (u : State) (n : List ℕ) (d : Done) (n′ : List ℕ) → tableBytes ≤ length n → Resumes (take (r .length) q′) later rs u n d n′
-    → (d .number ≡ 0) × (stateOf (d .state) n′ ≡ resumed later rs (bookOf clock later s m))
+    → (d .number ≡ 0) × (stateOf (d .state) n′ ≡ resumed later rs (snapshotOf clock later s m))
 resumes clock later rs s m q r q′ l h z fine u n d n′ room g =
-    let e : _≡_ {A = ModelDone} (record { number = d .number; state = stateOf (d .state) n′ }) (record { number = 0; state = resumed later rs (bookOf clock later s m) }) =
-    g .0 .is ∙ resume-is later (take (r .length) q′) rs (length n) (stateOf u n) (bookOf clock later s m) fine room (loads clock s m q r q′ l h z later) in
+    let e : _≡_ {A = ModelDone} (record { number = d .number; state = stateOf (d .state) n′ }) (record { number = 0; state = resumed later rs (snapshotOf clock later s m) }) =
+    g .0 .is ∙ resume-is later (take (r .length) q′) rs (length n) (stateOf u n) (snapshotOf clock later s m) fine room (loads clock s m q r q′ l h z later) in
     (ap (λ (x : ModelDone). x .number) e, ap (λ (x : ModelDone). x .state) e)
 
 -- refused, it has no length at all

@@ -18,7 +18,7 @@ use Rattle.model.specs.Figures.{mostBytes, dataLimit, tableBytes}
 use Rattle.model.specs.Snapshot.{Snapshot, load, resumed}
 use Rattle.table.specs.declared.Table.{Table}
 use Rattle.table.specs.declared.Entry.{Entry as Meta}
-use Rattle.table.specs.View.{blank, metaId, live, FitMeta, Arranged, metaOf, SlotsStay, Lays}
+use Rattle.table.specs.View.{noMeta, metaId, live, FitMeta, Arranged, metaOf, SlotsStay, Lays}
 use Rattle.table.proofs.Laying.{stays-self, wrote-none, lays-free, lays-behind}
 use Rattle.node.specs.declared.State.{State}
 use Rattle.ledger.specs.declared.answers.Done.{Done}
@@ -53,16 +53,16 @@ by-number : {X : Type 0} (n : ℕ) → (¬ (n ≡ 0) → X) → (n ≡ 0 → X) 
 by-number n f g = by-test (eqb n 0) (λ b. g (eqb-true n 0 b)) (λ b. f (eqb-false n 0 b))
 
 -- an accepted resume has a snapshot
-lays-book : (bytes : List ℕ) (clock : ℕ) (rs : List ℕ) (r : Done) (m′ : List ℕ) (s : State) (m : List ℕ) → Resumes bytes clock rs s m r m′ → r .number ≡ 0
+lays-loaded : (bytes : List ℕ) (clock : ℕ) (rs : List ℕ) (r : Done) (m′ : List ℕ) (s : State) (m : List ℕ) → Resumes bytes clock rs s m r m′ → r .number ≡ 0
     → (o : Option Snapshot) → load clock bytes ≡ o → not (isSome (load clock bytes)) ≡ false
     → Lays m (orElse (load clock bytes) [] (λ b. b .entries ++ resumed clock rs b .table)) (r .state .table) m′
-lays-book bytes clock rs r m′ s m h z none e i = no-way (isSome (load clock bytes)) (not-false (isSome (load clock bytes)) i) (ap isSome e)
-lays-book bytes clock rs r m′ s m h z (some b) e i = rw e (h .1 z b e)
+lays-loaded bytes clock rs r m′ s m h z none e i = no-way (isSome (load clock bytes)) (not-false (isSome (load clock bytes)) i) (ap isSome e)
+lays-loaded bytes clock rs r m′ s m h z (some b) e i = rw e (h .1 z b e)
 
 exactly : (x : PublicCall) (s : State) (m : List ℕ) → Promised x s m → numberOf x s m ≡ 0 → Lays m (writtenBy x s m) (stateAfter x s .table) (memoryAfter x m)
 exactly (PublicCall.begins own clock rs r) s m h z = wrote-none (r .state .table) m .lays
 exactly (PublicCall.resumes bytes clock rs r m′) s m h z =
-    lays-book bytes clock rs r m′ s m h z (load clock bytes) refl (numbers-exact .number (PublicCall.resumes bytes clock rs r m′) s m h .none .0 z .1 .1 .0)
+    lays-loaded bytes clock rs r m′ s m h z (load clock bytes) refl (numbers-exact .number (PublicCall.resumes bytes clock rs r m′) s m h .none .0 z .1 .1 .0)
 exactly (PublicCall.receives datagram clock endpoint unicast rs q r m′ q′) s m h z = h .wrote z .lays
 exactly (PublicCall.ticks clock endpoint rs q r m′ q′) s m h z = h .wrote z .lays
 exactly (PublicCall.pays clock p rs r m′) s m h z = h .1 z .lays
@@ -111,7 +111,7 @@ outcome x s m h = by-number (numberOf x s m) (λ n. inl (refusals-leave-all .ref
 
 -- found twice, it is one
 one-found : (t : Table) (n : ℕ) (x y : Meta) → metaOf t n ≡ some x → metaOf t n ≡ some y → x ≡ y
-one-found t n x y e f = ap (λ (o : Option Meta). orElse o blank (λ z. z)) (sym e ∙ f)
+one-found t n x y e f = ap (λ (o : Option Meta). orElse o noMeta (λ z. z)) (sym e ∙ f)
 
 stay-slots : (t r : Table) → SlotsStay t r → (n : ℕ) (y z : Meta) → metaOf t n ≡ some y → metaOf r n ≡ some z → z .slot ≡ y .slot
 stay-slots t r k n y z e f = let w = k n y e in ap (λ (x : Meta). x .slot) (one-found r n z (w .0) f (w .1)) ∙ w .2

@@ -17,7 +17,7 @@ pub struct Sent {
     pub length: usize,
 }
 
-// receive: and how many replies were left out for want of room, how many TLVs dropped.
+// receive: and how many replies were omitted, as they did not fit, how many TLVs dropped.
 #[repr(C)]
 pub struct Answer {
     pub number: u32,

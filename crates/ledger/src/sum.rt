@@ -1,4 +1,4 @@
-// Calls that sum, and the reachable nodes: they change nothing.
+// Calls that sum, show the reachable nodes or save: they change nothing.
 use crate::answers::Marked;
 use crate::answers::Saved;
 use crate::answers::Summed;

@@ -76,7 +76,7 @@ pub record EndpointsFit (clock : ℕ) (es : List Endpoint) : Type 0 where
   pub four : length es ≡ mostEndpoints
   pub all : All (EndpointFits clock) es
 
--- what holds of the state within a call at the reading now
+-- what holds of the state within a call at the reading `clock`
 pub record Midway (clock : ℕ) (s : State) : Type 0 where
   pub own : s .own < circle
   pub table : TableFits (s .own) clock (s .table)

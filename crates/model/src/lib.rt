@@ -1,4 +1,4 @@
-// Document 01 as definitions (specs/) with the theorems about them (proofs/), and the one test that the code has no definition of its own for.
+// Document 01 as definitions (specs/) with the theorems about them (proofs/), and the one function that every layer above shares: which number is older.
 ghost use mathlib.Core.Path.{_≡_};
 ghost use Rattle.model.specs.Sequence.{older};
 

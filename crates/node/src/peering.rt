@@ -1,4 +1,4 @@
-// Peers that come, are in contact, and are counted on an endpoint.
+// A peer that comes or is in contact; on an endpoint, an equal digest counted and a request noted.
 use crate::Endpoint;
 use crate::State;
 use crate::endpoints::endpoint_at;

@@ -1,4 +1,4 @@
-// The peers: known, touched, added.
+// The peers: known, contacted, added.
 ghost use mathlib.Core.Path.{_≡_};
 ghost use mathlib.Core.List.{[], _∷_, _++_, map};
 ghost use Prim.Native.Nat.{_<_};

@@ -18,7 +18,7 @@ use Rattle.model.specs.Digest.{digestPart, digestOf}
 use Rattle.table.specs.declared.Table.{Table}
 use Rattle.table.specs.declared.Entry.{Entry as Meta}
 use Rattle.base.proofs.Marks.{keep-by-map, keep-by-end, keep-by-next}
-use Rattle.table.specs.View.{blank, live, dataOf, seen, view, Hashed, Kept, Read}
+use Rattle.table.specs.View.{noMeta, live, dataOf, seen, view, Hashed, Kept, Read}
 
 -- number and digest of an entry
 abbrev pub rowPart : Meta → List ℕ
@@ -28,8 +28,8 @@ pub part-put : (d x y : List ℕ) (at : ℕ) (e : Meta) → x ≡ written d at (
 part-put d x y at e p q h l = q ∙ rw p (written-append d (big32 (e .seq)) (e .hash) at (omega arith))
 
 -- an entry that was read is one of those that count
-pub read-live : (t : Table) (i : ℕ) (r : Meta) → i < t .count → Read t i r → r ≡ getD (live t) i blank
-read-live t i r p o = o .same ∙ sym (getD-take (t .count) (t .entries) i blank p)
+pub read-live : (t : Table) (i : ℕ) (r : Meta) → i < t .count → Read t i r → r ≡ getD (live t) i noMeta
+read-live t i r p o = o .same ∙ sym (getD-take (t .count) (t .entries) i noMeta p)
 
 -- ---- the parts gathered so far: of the marked entries below place i, in the first n bytes
 
@@ -46,10 +46,10 @@ module _ (marks : List Bool) (l : List Meta) (d : List ℕ) (n i : ℕ) (g : Gat
     -- an entry that is not marked
     pub gather-stay : getD marks i false ≡ false → Gathered marks l d n (i + 1)
     gather-stay b =
-        record { size = g .size; most = omega (arith, g .most); all = g .all ∙ rw (keep-by-next blank marks l i p, b) }
+        record { size = g .size; most = omega (arith, g .most); all = g .all ∙ rw (keep-by-next noMeta marks l i p, b) }
 
     -- one part more
-    pub gather-on : (r : Meta) (x : List ℕ) → getD marks i false ≡ true → i < mostNodes → r ≡ getD l i blank → length (r .hash) ≡ 16 → x ≡ written d n (rowPart r) → Gathered marks l x (n + 20) (i + 1)
+    pub gather-on : (r : Meta) (x : List ℕ) → getD marks i false ≡ true → i < mostNodes → r ≡ getD l i noMeta → length (r .hash) ≡ 16 → x ≡ written d n (rowPart r) → Gathered marks l x (n + 20) (i + 1)
     gather-on r x b s q h e =
         let z : length (rowPart r) ≡ 20 = omega arith in
         let w : n + length (rowPart r) ≤ length d = omega (arith, g .size, g .most) in
@@ -58,7 +58,7 @@ module _ (marks : List Bool) (l : List Meta) (d : List ℕ) (n i : ℕ) (g : Gat
         record {
           size = ap length e ∙ written-length d (rowPart r) n w ∙ g .size;
           most = omega (arith, g .most);
-          all = g .all ∙ rw (keep-by-next blank marks l i p, b, ← q, v) (sym (append-assoc (take n d) (rowPart r) (joinAll (map rowPart (keepBy (drop (i + 1) marks) (drop (i + 1) l))))));
+          all = g .all ∙ rw (keep-by-next noMeta marks l i p, b, ← q, v) (sym (append-assoc (take n d) (rowPart r) (joinAll (map rowPart (keepBy (drop (i + 1) marks) (drop (i + 1) l))))));
         }
 
   pub gather-end : length l ≤ i → take n d ≡ joinAll (map rowPart (keepBy marks l))

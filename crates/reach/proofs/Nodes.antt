@@ -16,7 +16,7 @@ use Rattle.model.specs.Reach.{Vertex, vertices, joined}
 use Rattle.model.specs.Invariant.{EntryFits, TableFits}
 use Rattle.table.specs.declared.Table.{Table}
 use Rattle.table.specs.declared.Entry.{Entry as Meta}
-use Rattle.table.specs.View.{blank, metaAt, dataOf, seen, view, FitMeta, Arranged, Kept, Read}
+use Rattle.table.specs.View.{noMeta, metaAt, dataOf, seen, view, FitMeta, Arranged, Kept, Read}
 use Rattle.table.proofs.Tables.{meta-read, view-length, view-at, view-each}
 use Rattle.reach.specs.Marks.{joins, Readable, Legible, noVertex, leads}
 use Rattle.reach.specs.Parts.{Front}
@@ -80,7 +80,7 @@ held t m k i p = rw (view-length t k m) p
 module _ (clock : ℕ) (t : Table) (m : List ℕ) (g : Readable clock t m) where
   module _ (i : ℕ) (p : i < t .count) where
     node-at : getD (vertices clock (view t m)) i noVertex ≡ vertexOf clock (seen m (metaAt t i))
-    node-at = vertex-at clock (view t m) i (seen m blank) (held t m (g .kept .arranged) i p) ∙ ap (vertexOf clock) (view-at t (g .kept .arranged) m i p)
+    node-at = vertex-at clock (view t m) i (seen m noMeta) (held t m (g .kept .arranged) i p) ∙ ap (vertexOf clock) (view-at t (g .kept .arranged) m i p)
 
     pub legible-at : Legible clock m (metaAt t i)
     legible-at =

@@ -19,7 +19,7 @@ use Rattle.model.specs.Reach.{Vertex, vertices, isNode, level0, others, levels,
 use Rattle.table.specs.declared.Table.{Table}
 use Rattle.table.specs.declared.Found.{Found}
 use Rattle.table.specs.declared.Found.the-variants.{At, Missing}
-use Rattle.table.specs.View.{blank, seen, view, Arranged, Stands, Gap, Finding}
+use Rattle.table.specs.View.{noMeta, seen, view, Arranged, Stands, Gap, Finding}
 use Rattle.table.proofs.Tables.{view-length, view-at, view-ascending, look-gap}
 use Rattle.reach.specs.declared.mark.Traversed.{Traversed}
 use Rattle.reach.specs.Marks.{markedOf, noVertex, levelsAfter, Spread, Marking, Levelled}
@@ -95,7 +95,7 @@ pub mark-by : (own clock : ℕ) (t : Table) (m : List ℕ) → Arranged t → (i
 mark-by own clock t m k i s first r f g =
     let p : i < length (view t m) = rw (view-length t k m) (s .at) in
     levelled own clock (view t m) (view-ascending t k m) (few-nodes t m k) i p
-    (ap idOf (getD-any (view t m) i noEntry (seen m blank) p ∙ view-at t k m i (s .at)) ∙ s .named) first f r g
+    (ap idOf (getD-any (view t m) i noEntry (seen m noMeta) p ∙ view-at t k m i (s .at)) ∙ s .named) first f r g
 
 -- ---- the marked entries are those in reach
 

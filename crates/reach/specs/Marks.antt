@@ -81,7 +81,7 @@ pub record Marking (own clock : ℕ) (t : List Entry) (marks : List Bool) : Type
   pub wide : Wide marks
   pub each : (i : ℕ) → i < length t → getD marks i false ≡ inReach own clock t (idOf (getD t i noEntry))
 
--- the marks, and the number of the last ring
+-- the marks, and how many levels come after our own node
 pub record Levelled (own clock : ℕ) (t : List Entry) (r : Traversed) : Type 0 where
   pub marks : Marking own clock t (r .marks)
   pub count : r .levels ≡ length (levels own (vertices clock t))

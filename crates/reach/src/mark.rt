@@ -100,7 +100,7 @@ fn onward(w: Wave, next: [bool; 32]) -> Wave
     }
 }
 
-// The marks, and how many levels there are after the first.
+// The marks, and how many levels come after the first.
 pub struct Traversed {
     pub marks: [bool; 32],
     pub levels: usize,
@@ -133,7 +133,7 @@ fn spread(t: Table, mem: &[u8], clock: u64, first: [bool; 32]) -> Traversed
     Traversed { marks, levels: k }
 }
 
-// The marks of the reachable nodes, and how many levels they stand in.
+// The marks of the reachable nodes, and how many levels come after our own.
 pub fn mark(t: Table, mem: &[u8], own: u32, clock: u64) -> Traversed
     requires { ⌜ Readable clock t (now mem) × (isSome (look own (view t (now mem))) ≡ true) ⌝ }
     ensures { λ r. ⌜ Levelled own clock (view t (now (mem .entry))) r ⌝ }

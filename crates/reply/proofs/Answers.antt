@@ -17,7 +17,7 @@ use Rattle.model.specs.Handle.{reply, replies, digestNow, reachedNow, onRequest
 use Rattle.model.proofs.Cases.{request-network, request-node-unreachable, request-node-unknown, request-node-reached, replies-none, replies-next}
 use Rattle.model.proofs.Sent.{digest-length}
 use Rattle.table.specs.declared.Table.{Table}
-use Rattle.table.specs.View.{blank, metaAt, seen, view, Arranged, Stands, Gap}
+use Rattle.table.specs.View.{noMeta, metaAt, seen, view, Arranged, Stands, Gap}
 use Rattle.table.proofs.Tables.{look-stands, look-gap, view-length, view-at}
 use Rattle.reach.specs.Marks.{Readable, Marking}
 use Rattle.base.proofs.Marks.{keep-by-end, keep-by-next}
@@ -51,7 +51,7 @@ mark-at : (own clock : ℕ) (t : Table) (m : List ℕ) (marks : List Bool) (node
     → getD marks i false ≡ inReach own clock (view t m) node
 mark-at own clock t m marks node i k g s =
     let p : i < length (view t m) = rw (view-length t k m) (s .at) in
-    g .each i p ∙ ap (inReach own clock (view t m)) (ap idOf (getD-any (view t m) i noEntry (seen m blank) p ∙ view-at t k m i (s .at)) ∙ s .named)
+    g .each i p ∙ ap (inReach own clock (view t m)) (ap idOf (getD-any (view t m) i noEntry (seen m noMeta) p ∙ view-at t k m i (s .at)) ∙ s .named)
 
 module _ (c : Context) (w : Work) (m r : List ℕ) (h : Sound (c .clock) w m r) (f : w .fresh ≡ true) (node i : ℕ) where
   reaching : Marking (w .state .own) (c .clock) (view (w .state .table) m) (w .reached .marks)
@@ -101,7 +101,7 @@ module _ (c : Context) (t : Table) (marks : List Bool) (w : Work) (m r : List �
     module _ (p : i < t .count) where
       here : keepBy (drop i marks) (drop i (view t m))
           ≡ cond (getD marks i false) (seen m (metaAt t i) ∷ keepBy (drop (i + 1) marks) (drop (i + 1) (view t m))) (keepBy (drop (i + 1) marks) (drop (i + 1) (view t m)))
-      here = keep-by-next (seen m blank) marks (view t m) i (rw (view-length t k m) p) ∙ rw (view-at t k m i p)
+      here = keep-by-next (seen m noMeta) marks (view t m) i (rw (view-length t k m) p) ∙ rw (view-at t k m i p)
 
       -- a node that is not reachable
       pub list-stay : getD marks i false ≡ false → Listed c t marks w m r (i + 1) v r′

@@ -13,14 +13,14 @@ pub struct Context {
     pub others: bool,
 }
 
-// The last Node Endpoint TLV met so far, if there was one.
+// The sender: the latest Node Endpoint TLV; `known` once there was one.
 pub struct Sender {
     pub known: bool,
     pub node: u32,
     pub endpoint: u32,
 }
 
-// The state, the sender, the bytes written, replies left out and TLVs dropped for room; marks and digest while `fresh` is set.
+// The state, the sender, the bytes written, replies omitted and TLVs dropped; marks and digest while `fresh` is set.
 pub struct Work {
     pub state: State,
     pub sender: Sender,

@@ -40,7 +40,7 @@ fn put_head(room: &mut [u8], used: usize, own: u32, endpoint: u32) -> usize
     12
 }
 
-// A reply TLV, given in two parts; left out where it does not fit whole.
+// A reply TLV, given in two parts; omitted where it does not fit whole.
 pub fn reply(w: Work, mem: &[u8], room: &mut [u8], c: Context, front: &[u8], back: &[u8]) -> Work
     requires { ⌜ Sound (c .clock) w (now mem) (now room) × ((w .omitted < mostU32) × (length (now front) + length (now back) ≤ 4000)) ⌝ }
     ensures { λ v. ⌜ Stepped c 1 (reply (contextOf c) (now (front .entry) ++ now (back .entry))) w (now (mem .entry)) (now (room .entry)) v (now (mem .entry)) (now (room .exit)) ⌝ }

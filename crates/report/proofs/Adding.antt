@@ -29,7 +29,7 @@ use Rattle.model.specs.Figures.{dataLimit}
 use Rattle.model.specs.Table.{Statement}
 use Rattle.model.specs.Totals.{paymentsOf, paymentsIn, readable, totalOf}
 use Rattle.model.proofs.Totals.{payments-append, payments-end, payments-pass, payments-meet, readable-no, readable-yes, readable-append, tally, tally-none, tally-pass, tally-onward, ofHousehold, total-is, total-nodes}
-use Rattle.accounts.specs.Tallied.{alone, mostPayments}
+use Rattle.accounts.specs.Tallied.{publishing, mostPayments}
 use Rattle.report.specs.Steps.{households, Wide, sumAt, markAt, Small, Behind, pays, addSum, addMark, Added, paidIn, SumsGrow, SumsAre, Cleared}
 
 -- ---- behind the households
@@ -181,12 +181,12 @@ unfolding readable
 readable-none = refl
 
 -- one node's payments
-payments-alone : (d : List ℕ) → paymentsIn (alone d ∷ []) ≡ paymentsOf d
+payments-alone : (d : List ℕ) → paymentsIn (publishing d ∷ []) ≡ paymentsOf d
 unfolding paymentsIn
 payments-alone d = append-nil (paymentsOf d)
 
-total-alone : (d : List ℕ) (h : ℕ) → totalOf h (alone d ∷ []) ≡ tally (ofHousehold h) (paymentsOf d)
-total-alone d h = total-is h (alone d ∷ []) ∙ ap (tally (ofHousehold h)) (payments-alone d)
+total-alone : (d : List ℕ) (h : ℕ) → totalOf h (publishing d ∷ []) ≡ tally (ofHousehold h) (paymentsOf d)
+total-alone d h = total-is h (publishing d ∷ []) ∙ ap (tally (ofHousehold h)) (payments-alone d)
 
 -- only readable payments are summed
 tally-same : (f : Payment → Bool) (ts us : List (List ℕ)) → readable ts ≡ readable us → tally f ts ≡ tally f us
@@ -285,7 +285,7 @@ module _ (d : List ℕ) (s₀ : List ℤ) (b₀ : List Bool) where
           (λ p e. rw (a .sums, a .marks, pays-read (h .kind) v y, e) (going-paid y p e)))
           (λ i. let n : h .kind ≡ 40 → ⊥ = eqb-false (h .kind) 40 i in off (pays-other (h .kind) v n) (ap readable (payments-pass d at h t n)))
 
-    pub going-end : length d ≤ at → SumsGrow (alone d ∷ []) s₀ b₀ s b × Behind s₀ b₀ s b
+    pub going-end : length d ≤ at → SumsGrow (publishing d ∷ []) s₀ b₀ s b × Behind s₀ b₀ s b
     going-end l =
         let e : paymentsOf (drop at d) ≡ [] = payments-end d at l in (
           record {
@@ -319,10 +319,10 @@ totals-then ss us s b s′ b′ t u =
     }
 
 -- only what a node publishes matters
-pub summed-says : (d : List ℕ) (x : Statement) (s : List ℤ) (b : List Bool) (s′ : List ℤ) (b′ : List Bool) → d ≡ x .nodeData → SumsGrow (alone d ∷ []) s b s′ b′ → SumsGrow (x ∷ []) s b s′ b′
+pub summed-says : (d : List ℕ) (x : Statement) (s : List ℤ) (b : List Bool) (s′ : List ℤ) (b′ : List Bool) → d ≡ x .nodeData → SumsGrow (publishing d ∷ []) s b s′ b′ → SumsGrow (x ∷ []) s b s′ b′
 unfolding paymentsIn
 summed-says d x s b s′ b′ e u =
     record {
-      sums = λ h i. u .sums h i ∙ rw (total-is h (alone d ∷ []), total-is h (x ∷ []), e);
+      sums = λ h i. u .sums h i ∙ rw (total-is h (publishing d ∷ []), total-is h (x ∷ []), e);
       marks = λ h i. u .marks h i ∙ rw e;
     }

@@ -16,9 +16,9 @@ use Rattle.model.specs.Table.{Entry, statements}
 use Rattle.model.specs.Totals.{paymentsIn}
 use Rattle.model.proofs.Totals.{payments-good, tally-mag, ofHousehold, total-is}
 use Rattle.table.specs.declared.Table.{Table}
-use Rattle.table.specs.View.{blank, metaAt, dataOf, seen, view, Kept, AllGood}
+use Rattle.table.specs.View.{noMeta, metaAt, dataOf, seen, view, Kept, AllGood}
 use Rattle.table.proofs.Tables.{view-length}
-use Rattle.accounts.specs.Tallied.{alone, mostPayments}
+use Rattle.accounts.specs.Tallied.{publishing, mostPayments}
 use Rattle.report.specs.Steps.{Small, Cleared, SumsGrow, SumsAre}
 use Rattle.report.proofs.Adding.{totals-none, totals-then, summed-says}
 use Rattle.accounts.proofs.Sums.{meta-inside, meta-says}
@@ -45,7 +45,7 @@ module _ (marks : List Bool) (t : List Entry) (s : List ℤ) (b : List Bool) whe
       below-stay : getD marks i false ≡ false → Below marks t s b (i + 1)
       below-stay k = rw (keep-by-out x marks t i p k) d
 
-      below-on : (n : List ℕ) (s′ : List ℤ) (b′ : List Bool) → getD marks i false ≡ true → n ≡ getD t i x .says .nodeData → SumsGrow (alone n ∷ []) s b s′ b′
+      below-on : (n : List ℕ) (s′ : List ℤ) (b′ : List Bool) → getD marks i false ≡ true → n ≡ getD t i x .says .nodeData → SumsGrow (publishing n ∷ []) s b s′ b′
           → Below marks t s′ b′ (i + 1)
       below-on n s′ b′ k e u =
           let es : List Entry = keepBy marks (take i t) in
@@ -68,11 +68,11 @@ module _ (t : Table) (m : List ℕ) (k : Kept t m) where
       sums-room g p = below-room marks (view t m) s b i d g (omega (arith, k .arranged .most))
 
       pub sums-stay : i < t .count → getD marks i false ≡ false → Below marks (view t m) s b (i + 1)
-      sums-stay p q = below-stay marks (view t m) s b i d (seen m blank) (meta-inside t m k i p) q
+      sums-stay p q = below-stay marks (view t m) s b i d (seen m noMeta) (meta-inside t m k i p) q
 
       pub sums-on : i < t .count → getD marks i false ≡ true → (n : List ℕ) → n ≡ dataOf m (metaAt t i) → (s′ : List ℤ) (b′ : List Bool)
-          → SumsGrow (alone n ∷ []) s b s′ b′ → Below marks (view t m) s′ b′ (i + 1)
-      sums-on p q n e s′ b′ u = below-on marks (view t m) s b i d (seen m blank) (meta-inside t m k i p) n s′ b′ q (meta-says t m k i p n e) u
+          → SumsGrow (publishing n ∷ []) s b s′ b′ → Below marks (view t m) s′ b′ (i + 1)
+      sums-on p q n e s′ b′ u = below-on marks (view t m) s b i d (seen m noMeta) (meta-inside t m k i p) n s′ b′ q (meta-says t m k i p n e) u
 
       pub sums-end : t .count ≤ i → SumsAre (statements (keepBy marks (view t m))) s b
       sums-end l = below-end marks (view t m) s b i d (rw (view-length t (k .arranged) m) l)

@@ -13,7 +13,7 @@ ghost use Rattle.wire.specs.Order.{good};
 ghost use Rattle.model.specs.Figures.{dataLimit};
 ghost use Rattle.model.specs.Table.{statements};
 ghost use Rattle.table.specs.View.{view, Kept, AllGood};
-ghost use Rattle.accounts.specs.Tallied.{mostPayments, alone};
+ghost use Rattle.accounts.specs.Tallied.{mostPayments, publishing};
 ghost use Rattle.report.specs.Steps.{Wide, Small, Behind, Cleared, pays, Added, SumsGrow, SumsAre};
 
 // Numbers 0 to the highest household: a place for each in the lent sums.
@@ -57,7 +57,7 @@ fn add_tlv(sums: &mut [i64], paid: &mut [bool], kind: u16, value: &[u8])
 // One node's data more.
 fn add_data(sums: &mut [i64], paid: &mut [bool], nd: &[u8])
     requires { ⌜ Wide (now sums) (now paid) × (Small mostPayments (now sums) × (good dataLimit (now nd) ≡ true)) ⌝ }
-    ensures { λ r. ⌜ SumsGrow (alone (now (nd .entry)) ∷ []) (now (sums .entry)) (now (paid .entry)) (now (sums .exit)) (now (paid .exit)) × Behind (now (sums .entry)) (now (paid .entry)) (now (sums .exit)) (now (paid .exit)) ⌝ }
+    ensures { λ r. ⌜ SumsGrow (publishing (now (nd .entry)) ∷ []) (now (sums .entry)) (now (paid .entry)) (now (sums .exit)) (now (paid .exit)) × Behind (now (sums .entry)) (now (paid .entry)) (now (sums .exit)) (now (paid .exit)) ⌝ }
 {
     let mut at = 0;
     while at < nd.len() {

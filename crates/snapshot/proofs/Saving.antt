@@ -20,7 +20,7 @@ use Rattle.model.specs.Snapshot.{saveEntry, saved}
 use Rattle.model.proofs.Snapshots.{savedHead, savedEntries, entryBytes, headBytes, saved-is, entries-next, entry-put, entry-end, head-short, entry-short, save-short}
 use Rattle.table.specs.declared.Table.{Table}
 use Rattle.table.specs.declared.Entry.{Entry as Meta}
-use Rattle.table.specs.View.{blank, metaAt, dataOf, seen, view, FitMeta, Kept, Read, entryWith}
+use Rattle.table.specs.View.{noMeta, metaAt, dataOf, seen, view, FitMeta, Kept, Read, entryWith}
 use Rattle.table.proofs.Tables.{meta-read, view-length, view-at, data-length}
 use Rattle.snapshot.specs.Answers.{SavedTo}
 
@@ -68,7 +68,7 @@ module _ (t : Table) (m : List ℕ) (i : ℕ) (k : Kept t m) (p : i < t .count) 
 
   module _ (bytes : List ℕ) (e : bytes ≡ dataOf m (metaAt t i)) where
     pub entry-seen : getD (view t m) i noEntry ≡ entryWith (metaAt t i) bytes
-    entry-seen = getD-any (view t m) i noEntry (seen m blank) (rw (view-length t (k .arranged) m) p) ∙ view-at t (k .arranged) m i p ∙ ap (entryWith (metaAt t i)) (sym e)
+    entry-seen = getD-any (view t m) i noEntry (seen m noMeta) (rw (view-length t (k .arranged) m) p) ∙ view-at t (k .arranged) m i p ∙ ap (entryWith (metaAt t i)) (sym e)
 
     pub meta-fits : (own clock : ℕ) → TableFits own clock (view t m) → EntryFits clock (entryWith (metaAt t i) bytes)
     meta-fits own clock f = subst (EntryFits clock) entry-seen (all-at (EntryFits clock) noEntry (view t m) i (f .entries) (rw (view-length t (k .arranged) m) p))

@@ -24,7 +24,7 @@ use Rattle.base.proofs.Written.{part-length, part-there, spliced-length, cut-le
 use Rattle.sha256.specs.Sha256.{hash16}
 use Rattle.model.specs.Figures.{mostNodes, dataLimit, tableBytes}
 use Rattle.model.specs.Table.{Entry, entryOf, idOf, put, look}
-use Rattle.table.specs.View.{blank, metaId, live, metaAt, dataOf, seen, view, OnlySlot, Free, Apart, FitMeta, Fit, Hashed, Arranged, Kept, metaOf, SlotsStay, Stands, Gap, Finding, Read, Stored, withEntries, withMeta, inserted, Renumbered, SlotUsed, Purged}
+use Rattle.table.specs.View.{noMeta, metaId, live, metaAt, dataOf, seen, view, OnlySlot, Free, Apart, FitMeta, Fit, Hashed, Arranged, Kept, metaOf, SlotsStay, Stands, Gap, Finding, Read, Stored, withEntries, withMeta, inserted, Renumbered, SlotUsed, Purged}
 use Rattle.table.specs.declared.Table.{Table}
 use Rattle.table.specs.declared.Found.{Found}
 use Rattle.table.specs.declared.Found.the-variants.{At, Missing}
@@ -60,11 +60,11 @@ pub free-clear : (e : Meta) (s : ℕ) (l : List Meta) → e .slot ≡ s → Free
 free-clear e s [] q h = tt
 free-clear e s (x ∷ l) q h = ((λ n k. h .0 (k ∙ q)), free-clear e s l q (h .1))
 
-pub stands-clear : (e : Meta) (l : List Meta) (i : ℕ) → Apart l → i < length l → getD l i blank .id ≡ e .id → getD l i blank .slot ≡ e .slot → Clear e l
+pub stands-clear : (e : Meta) (l : List Meta) (i : ℕ) → Apart l → i < length l → getD l i noMeta .id ≡ e .id → getD l i noMeta .slot ≡ e .slot → Clear e l
 stands-clear e [] i a p q r = tt
 stands-clear e (x ∷ l) zero a p q r = ((λ n. absurd (n q)), free-clear e (x .slot) l (sym r) (a .0))
 stands-clear e (x ∷ l) (suc i) a p q r =
-    ((λ n k. all-at (λ (e : Meta). ¬ (e .slot ≡ x .slot)) blank l i (a .0) (le-of-suc-le-suc p) (r ∙ sym k)), stands-clear e l i (a .1) (le-of-suc-le-suc p) q r)
+    ((λ n k. all-at (λ (e : Meta). ¬ (e .slot ≡ x .slot)) noMeta l i (a .0) (le-of-suc-le-suc p) (r ∙ sym k)), stands-clear e l i (a .1) (le-of-suc-le-suc p) q r)
 
 apart-put : (e : Meta) (l : List Meta) → Ascending metaId l → Clear e l → Apart l → Apart (insert metaId e l)
 unfolding insert
@@ -93,15 +93,15 @@ seen-put m m′ e (x ∷ l) o a f c =
 -- ---- found
 
 module _ (l : List Meta) (i : ℕ) (d : Meta) (x : ℕ) (h : i < length l) where
-  pub id-is : getD l i d .id ≡ x → getD l i blank .id ≡ x
-  id-is e = ap metaId (getD-any l i blank d h) ∙ e
+  pub id-is : getD l i d .id ≡ x → getD l i noMeta .id ≡ x
+  id-is e = ap metaId (getD-any l i noMeta d h) ∙ e
 
-  pub id-over : x < getD l i d .id → x < getD l i blank .id
-  id-over p = let q : getD l i blank .id ≡ getD l i d .id = ap metaId (getD-any l i blank d h) in omega arith
+  pub id-over : x < getD l i d .id → x < getD l i noMeta .id
+  id-over p = let q : getD l i noMeta .id ≡ getD l i d .id = ap metaId (getD-any l i noMeta d h) in omega arith
 
-  pub ids-under : ¬ (getD l i d .id ≡ x) → getD l i d .id ≤ x → ((k : ℕ) → k < i → getD l k blank .id < x) → (k : ℕ) → k < i + 1 → getD l k blank .id < x
+  pub ids-under : ¬ (getD l i d .id ≡ x) → getD l i d .id ≤ x → ((k : ℕ) → k < i → getD l k noMeta .id < x) → (k : ℕ) → k < i + 1 → getD l k noMeta .id < x
   ids-under n p f k q =
-      let e : getD l i blank .id ≡ getD l i d .id = ap metaId (getD-any l i blank d h) in
+      let e : getD l i noMeta .id ≡ getD l i d .id = ap metaId (getD-any l i noMeta d h) in
       by-order k i (λ r. f k r) (λ r. rw r (omega arith)) (λ r. absurd (omega arith))
 
 -- ---- digests
@@ -132,8 +132,8 @@ hashed-put m m′ e (x ∷ l) o a f c q h =
 pub live-length : (t : Table) → Arranged t → length (live t) ≡ t .count
 live-length t k = simp length-take (omega arith)
 
-live-at : (t : Table) (i : ℕ) → i < t .count → getD (live t) i blank ≡ metaAt t i
-live-at t i p = getD-take (t .count) (t .entries) i blank p
+live-at : (t : Table) (i : ℕ) → i < t .count → getD (live t) i noMeta ≡ metaAt t i
+live-at t i p = getD-take (t .count) (t .entries) i noMeta p
 
 -- what is known of a node that is held
 pub meta-found : (t : Table) → Arranged t → (x : Meta) → In x (live t) → metaOf t (x .id) ≡ some x
@@ -143,14 +143,14 @@ meta-found t k x m =
 
 pub stands-found : (t : Table) (id i : ℕ) → Arranged t → Stands t id i → metaOf t id ≡ some (metaAt t i)
 stands-found t id i k s =
-    find-at metaId blank id (live t) i (k .ascending) (rw (live-length t k) (s .at)) (ap metaId (live-at t i (s .at)) ∙ s .named) ∙ ap some (live-at t i (s .at))
+    find-at metaId noMeta id (live t) i (k .ascending) (rw (live-length t k) (s .at)) (ap metaId (live-at t i (s .at)) ∙ s .named) ∙ ap some (live-at t i (s .at))
 
 above-none : (n : ℕ) (l : List Meta) → Above metaId n l → find metaId n l ≡ none
 unfolding find
 above-none n [] h = refl
 above-none n (x ∷ l) h = find-no metaId n x l (omega arith) ∙ above-none n l (h .1)
 
-gap-none : (n : ℕ) (l : List Meta) (i : ℕ) → Ascending metaId l → ((j : ℕ) → j < i → j < length l → getD l j blank .id < n) → (i < length l → n < getD l i blank .id) → find metaId n l ≡ none
+gap-none : (n : ℕ) (l : List Meta) (i : ℕ) → Ascending metaId l → ((j : ℕ) → j < i → j < length l → getD l j noMeta .id < n) → (i < length l → n < getD l i noMeta .id) → find metaId n l ≡ none
 unfolding find
 gap-none n [] i a f g = refl
 gap-none n (x ∷ l) zero a f g =
@@ -168,7 +168,7 @@ gap-found t id i k g =
 pub live-over : (t : Table) (i : ℕ) (e : Meta) → Arranged t → Stands t (e .id) i → live (withMeta t i e) ≡ insert metaId e (live t)
 live-over t i e k s =
     take-set-lt (t .count) (t .entries) i e (s .at)
-    ∙ sym (insert-over metaId blank e (live t) i (k .ascending) (rw (live-length t k) (s .at)) (ap metaId (live-at t i (s .at)) ∙ s .named))
+    ∙ sym (insert-over metaId noMeta e (live t) i (k .ascending) (rw (live-length t k) (s .at)) (ap metaId (live-at t i (s .at)) ∙ s .named))
 
 take-insert : {A : Type 0} (l : List A) (i n : ℕ) (e : A) → i ≤ n → take (suc n) (take i l ++ (e ∷ drop i l)) ≡ take i (take n l) ++ (e ∷ drop i (take n l))
 take-insert l zero n e p = refl
@@ -181,7 +181,7 @@ live-new t i e k l g =
     let n : length (take (t .count + 1) (take i (t .entries) ++ (e ∷ drop i (t .entries)))) ≡ t .count + 1 = ins-long in
     take-at (take (t .count + 1) (take i (t .entries) ++ (e ∷ drop i (t .entries)))) (drop (t .count + 1) (t .entries)) (t .count + 1) n
     ∙ rw add-one (take-insert (t .entries) i (t .count) e (g .at))
-    ∙ sym (insert-between metaId blank e (live t) i (rw (live-length t k) (g .at))
+    ∙ sym (insert-between metaId noMeta e (live t) i (rw (live-length t k) (g .at))
     (λ j p. rw (live-at t j (omega (arith, g .at))) (g .below j p)) (λ p. rw (live-at t i (rw (live-length t k) at p)) (g .above (rw (live-length t k) at p))))
   where
     ins-long : length (take (t .count + 1) (take i (t .entries) ++ (e ∷ drop i (t .entries)))) ≡ t .count + 1
@@ -248,10 +248,10 @@ pub stored-over : (t : Table) (m : List ℕ) (e : Meta) (d : List ℕ) (i : ℕ)
 stored-over t m e d i k s q n l h =
     let b : i < length (live t) = rw (live-length t (k .arranged)) (s .at) in
     let w : i < length (t .entries) = omega (arith, k .arranged .wide, k .arranged .most, s .at) in
-    let f : FitMeta (metaAt t i) = rw (live-at t i (s .at)) at (all-at FitMeta blank (live t) i (k .arranged .fit) b) in
+    let f : FitMeta (metaAt t i) = rw (live-at t i (s .at)) at (all-at FitMeta noMeta (live t) i (k .arranged .fit) b) in
     stored t (withMeta t i e) m e d i k (k .arranged .most) (length-set (t .entries) i e ∙ k .arranged .wide) (live-over t i e (k .arranged) s) (omega (arith, f .0), omega arith)
     (stands-clear e (live t) i (k .arranged .apart) b (ap metaId (live-at t i (s .at)) ∙ s .named) (ap (λ (x : Meta). x .slot) (live-at t i (s .at)) ∙ sym q)) n h
-    (s .at) (getD-set-same (t .entries) i e blank w) (slot-had t e i (k .arranged) s q)
+    (s .at) (getD-set-same (t .entries) i e noMeta w) (slot-had t e i (k .arranged) s q)
 
 -- a new one, in a free slot
 pub stored-new : (t : Table) (m : List ℕ) (e : Meta) (d : List ℕ) (i : ℕ) → Kept t m → t .count < 32 → Gap t (e .id) i → e .slot < 32 → Free (e .slot) (live t) → e .len ≡ length d → length d ≤ dataLimit → e .hash ≡ hash16 d
@@ -263,12 +263,12 @@ stored-new t m e d i k p g s free n l h =
     long : length (inserted t i e .entries) ≡ 32
     long = let w : length (t .entries) ≡ 32 = k .arranged .wide in let b : i ≤ t .count = g .at in simp (length-append, length-take, length-drop) (omega arith)
 
-    there : getD (inserted t i e .entries) i blank ≡ e
+    there : getD (inserted t i e .entries) i noMeta ≡ e
     there =
         let w : length (t .entries) ≡ 32 = k .arranged .wide in let b : i ≤ t .count = g .at in
-        List·getD-append (take (t .count + 1) (take i (t .entries) ++ (e ∷ drop i (t .entries)))) (drop (t .count + 1) (t .entries)) blank i (simp (length-append, length-take, length-drop) (omega arith))
-        ∙ getD-take (t .count + 1) (take i (t .entries) ++ (e ∷ drop i (t .entries))) i blank (omega arith)
-        ∙ getD-at (take i (t .entries)) e (drop i (t .entries)) blank i (length-take-le i (t .entries) (omega arith))
+        List·getD-append (take (t .count + 1) (take i (t .entries) ++ (e ∷ drop i (t .entries)))) (drop (t .count + 1) (t .entries)) noMeta i (simp (length-append, length-take, length-drop) (omega arith))
+        ∙ getD-take (t .count + 1) (take i (t .entries) ++ (e ∷ drop i (t .entries))) i noMeta (omega arith)
+        ∙ getD-at (take i (t .entries)) e (drop i (t .entries)) noMeta i (length-take-le i (t .entries) (omega arith))
 
 -- with the data as they were
 pub renumbered : (t : Table) (e : Meta) (i : ℕ) → Arranged t → Stands t (e .id) i → e .slot ≡ metaAt t i .slot → e .len ≡ metaAt t i .len → e .hash ≡ metaAt t i .hash
@@ -295,7 +295,7 @@ renumbered t e i k s q n h =
     wide = length-set (t .entries) i e ∙ k .wide
 
     f : FitMeta e
-    f = let g : FitMeta (metaAt t i) = rw (live-at t i (s .at)) at (all-at FitMeta blank (live t) i (k .fit) b) in (omega (arith, g .0), omega (arith, g .1))
+    f = let g : FitMeta (metaAt t i) = rw (live-at t i (s .at)) at (all-at FitMeta noMeta (live t) i (k .fit) b) in (omega (arith, g .0), omega (arith, g .1))
 
     c : Clear e (live t)
     c = stands-clear e (live t) i (k .apart) b (ap metaId (live-at t i (s .at)) ∙ s .named) (ap (λ (x : Meta). x .slot) (live-at t i (s .at)) ∙ sym q)
@@ -304,13 +304,13 @@ renumbered t e i k s q n h =
     same m = rw (q, n)
 
     hashed-at : (m : List ℕ) → Kept t m → metaAt t i .hash ≡ hash16 (dataOf m (metaAt t i))
-    hashed-at m g = rw (live-at t i (s .at)) at (all-at (λ (e : Meta). e .hash ≡ hash16 (dataOf m e)) blank (live t) i (g .hashed) b)
+    hashed-at m g = rw (live-at t i (s .at)) at (all-at (λ (e : Meta). e .hash ≡ hash16 (dataOf m e)) noMeta (live t) i (g .hashed) b)
 
 -- ---- one entry read, one carried up
 
 pub meta-read : (t : Table) (i : ℕ) → Arranged t → i < t .count → Read t i (metaAt t i)
 meta-read t i k p =
-    let f : FitMeta (metaAt t i) = rw (live-at t i p) at (all-at FitMeta blank (live t) i (k .fit) (rw (live-length t k) p)) in
+    let f : FitMeta (metaAt t i) = rw (live-at t i p) at (all-at FitMeta noMeta (live t) i (k .fit) (rw (live-length t k) p)) in
     record { same = refl; long = refl; low = f .0; short = f .1 }
 
 -- ---- what the functions leave
@@ -379,7 +379,7 @@ length-mapped f l n p = sym (length-map l f) ∙ p
 
 -- ---- a free slot
 
-In-at : (l : List Meta) (k : ℕ) → k < length l → In (getD l k blank .slot) (map (λ (e : Meta). e .slot) l)
+In-at : (l : List Meta) (k : ℕ) → k < length l → In (getD l k noMeta .slot) (map (λ (e : Meta). e .slot) l)
 In-at [] k p = absurd (not-suc-le-zero p)
 In-at (e ∷ l) zero p = inl refl
 In-at (e ∷ l) (suc k) p = inr (In-at l k (le-of-suc-le-suc p))
@@ -392,7 +392,7 @@ all-used t n k p f =
     subst (λ (z : ℕ). In z (map (λ (e : Meta). e .slot) (live t))) (ap (λ (e : Meta). e .slot) (live-at t (w .0) (w .1 .0)) ∙ w .1 .1) (In-at (live t) (w .0) (rw (live-length t k) (w .1 .0)))) in
     omega (arith, length-map (live t) (λ (e : Meta). e .slot), live-length t k)
 
-free-from : (s : ℕ) (l : List Meta) → ((k : ℕ) → k < length l → ¬ (getD l k blank .slot ≡ s)) → Free s l
+free-from : (s : ℕ) (l : List Meta) → ((k : ℕ) → k < length l → ¬ (getD l k noMeta .slot ≡ s)) → Free s l
 free-from s [] f = tt
 free-from s (e ∷ l) f = (f 0 (suc-le-suc zero-le), free-from s l (λ k p. f (suc k) (suc-le-suc p)))
 
@@ -401,12 +401,12 @@ unused-free t s k f = free-from s (live t) (λ j p. let q : j < t .count = rw (l
 
 -- the search for a slot goes on
 module _ (l : List Meta) (i : ℕ) (d : Meta) (x : ℕ) (h : i < length l) where
-  pub slot-is : getD l i d .slot ≡ x → getD l i blank .slot ≡ x
-  slot-is e = ap (λ (r : Meta). r .slot) (getD-any l i blank d h) ∙ e
+  pub slot-is : getD l i d .slot ≡ x → getD l i noMeta .slot ≡ x
+  slot-is e = ap (λ (r : Meta). r .slot) (getD-any l i noMeta d h) ∙ e
 
-  pub slots-differ : ¬ (getD l i d .slot ≡ x) → ((k : ℕ) → k < i → ¬ (getD l k blank .slot ≡ x)) → (k : ℕ) → k < i + 1 → ¬ (getD l k blank .slot ≡ x)
+  pub slots-differ : ¬ (getD l i d .slot ≡ x) → ((k : ℕ) → k < i → ¬ (getD l k noMeta .slot ≡ x)) → (k : ℕ) → k < i + 1 → ¬ (getD l k noMeta .slot ≡ x)
   slots-differ n f k q =
-      by-order k i (λ r. f k r) (λ r. rw r (λ z. n (ap (λ (r : Meta). r .slot) (getD-any l i d blank h) ∙ z))) (λ r. absurd (omega arith))
+      by-order k i (λ r. f k r) (λ r. rw r (λ z. n (ap (λ (r : Meta). r .slot) (getD-any l i d noMeta h) ∙ z))) (λ r. absurd (omega arith))
 
 pub slots-used : (t : Table) (s : ℕ) → SlotUsed t s true → ((u : ℕ) → u < s → SlotUsed t u true) → (u : ℕ) → u < s + 1 → SlotUsed t u true
 slots-used t s w f u p = by-order u s (λ q. f u q) (λ q. rw q w) (λ q. absurd (omega arith))
@@ -468,12 +468,12 @@ purged bs t r k most wide q =
 
 -- one entry passed
 pub keep-step : (bs : List Bool) (l ns : List Meta) (i j : ℕ) → i < length bs → i < length l → j < length ns
-    → take j ns ++ keepBy (drop i bs) (drop i l) ≡ take (cond (getD bs i false) (j + 1) j) (set ns j (getD l i blank)) ++ keepBy (drop (i + 1) bs) (drop (i + 1) l)
-keep-step bs l ns i j p q r = rw (add-one i, drop-cons bs i false p, drop-cons l i blank q) (sym (go (getD bs i false)))
+    → take j ns ++ keepBy (drop i bs) (drop i l) ≡ take (cond (getD bs i false) (j + 1) j) (set ns j (getD l i noMeta)) ++ keepBy (drop (i + 1) bs) (drop (i + 1) l)
+keep-step bs l ns i j p q r = rw (add-one i, drop-cons bs i false p, drop-cons l i noMeta q) (sym (go (getD bs i false)))
   where
-    go : (b : Bool) → take (cond b (j + 1) j) (set ns j (getD l i blank)) ++ keepBy (drop (suc i) bs) (drop (suc i) l) ≡ take j ns ++ cond b (getD l i blank ∷ keepBy (drop (suc i) bs) (drop (suc i) l)) (keepBy (drop (suc i) bs) (drop (suc i) l))
-    go true = rw (add-one j, take-suc-set ns j (getD l i blank) r) (append-snoc (take j ns) (getD l i blank) (keepBy (drop (suc i) bs) (drop (suc i) l)))
-    go false = rw (take-set-le j ns j (getD l i blank) (omega arith))
+    go : (b : Bool) → take (cond b (j + 1) j) (set ns j (getD l i noMeta)) ++ keepBy (drop (suc i) bs) (drop (suc i) l) ≡ take j ns ++ cond b (getD l i noMeta ∷ keepBy (drop (suc i) bs) (drop (suc i) l)) (keepBy (drop (suc i) bs) (drop (suc i) l))
+    go true = rw (add-one j, take-suc-set ns j (getD l i noMeta) r) (append-snoc (take j ns) (getD l i noMeta) (keepBy (drop (suc i) bs) (drop (suc i) l)))
+    go false = rw (take-set-le j ns j (getD l i noMeta) (omega arith))
 
 pub keep-end : (bs : List Bool) (l ns : List Meta) (i j : ℕ) → length l ≤ i → take j ns ++ keepBy (drop i bs) (drop i l) ≡ take j ns
 keep-end bs l ns i j p = rw (drop-of-length-le l {i = i} p, keep-by-nil (drop i bs)) (append-nil (take j ns))
@@ -499,20 +499,20 @@ module _ (t : Table) (k : Arranged t) where
   look-stands id i m s =
       let b : i < length (live t) = rw (live-length t k) (s .at) in
       let l : i < length (map (seen m) (live t)) = rw (length-map (live t) (seen m)) b in
-      let e : getD (map (seen m) (live t)) i (seen m blank) ≡ seen m (metaAt t i) = List·getD-map (seen m) (live t) i blank ∙ ap (seen m) (live-at t i (s .at)) in
-      find-at idOf (seen m blank) id (map (seen m) (live t)) i (seen-ascending m (live t) (k .ascending)) l (ap idOf e ∙ s .named) ∙ ap some e
+      let e : getD (map (seen m) (live t)) i (seen m noMeta) ≡ seen m (metaAt t i) = List·getD-map (seen m) (live t) i noMeta ∙ ap (seen m) (live-at t i (s .at)) in
+      find-at idOf (seen m noMeta) id (map (seen m) (live t)) i (seen-ascending m (live t) (k .ascending)) l (ap idOf e ∙ s .named) ∙ ap some e
 
   pub view-length : (m : List ℕ) → length (view t m) ≡ t .count
   unfolding view
   view-length m = length-map (live t) (seen m) ∙ live-length t k
 
-  pub view-at : (m : List ℕ) (i : ℕ) → i < t .count → getD (view t m) i (seen m blank) ≡ seen m (metaAt t i)
+  pub view-at : (m : List ℕ) (i : ℕ) → i < t .count → getD (view t m) i (seen m noMeta) ≡ seen m (metaAt t i)
   unfolding view
-  view-at m i p = List·getD-map (seen m) (live t) i blank ∙ ap (seen m) (live-at t i p)
+  view-at m i p = List·getD-map (seen m) (live t) i noMeta ∙ ap (seen m) (live-at t i p)
 
   -- what holds of every entry holds of the one at place i
   pub view-each : (P : Entry → Type 0) (m : List ℕ) (i : ℕ) → All P (view t m) → i < t .count → P (seen m (metaAt t i))
-  view-each P m i h p = subst P (view-at m i p) (all-at P (seen m blank) (view t m) i h (rw (view-length m) p))
+  view-each P m i h p = subst P (view-at m i p) (all-at P (seen m noMeta) (view t m) i h (rw (view-length m) p))
 
   pub view-ascending : (m : List ℕ) → Ascending idOf (view t m)
   unfolding view
@@ -545,7 +545,7 @@ all-stored P e t r m m′ i s p h = rw (s .viewed) (all-insert P idOf e (view t 
 pub meta-hashed : (t : Table) (m : List ℕ) (i : ℕ) → Kept t m → i < t .count → metaAt t i .hash ≡ hash16 (dataOf m (metaAt t i))
 meta-hashed t m i k p =
     subst (λ (e : Meta). e .hash ≡ hash16 (dataOf m e)) (live-at t i p)
-    (all-at (λ (e : Meta). e .hash ≡ hash16 (dataOf m e)) blank (live t) i (k .hashed) (rw (live-length t (k .arranged)) p))
+    (all-at (λ (e : Meta). e .hash ≡ hash16 (dataOf m e)) noMeta (live t) i (k .hashed) (rw (live-length t (k .arranged)) p))
 
 -- what a search found, by its answer
 module _ (t : Table) (id i : ℕ) (f : Found) where

@@ -17,8 +17,8 @@ use Rattle.table.specs.declared.Entry.{Entry as Meta}
 use Rattle.table.specs.declared.Found.{Found}
 use Rattle.table.specs.declared.Found.the-variants.{At, Missing}
 
-abbrev pub blank : Meta
-blank = record { id = 0; seq = 0; age = 0; since = 0; len = 0; slot = 0; hash = [] }
+abbrev pub noMeta : Meta
+noMeta = record { id = 0; seq = 0; age = 0; since = 0; len = 0; slot = 0; hash = [] }
 
 abbrev pub metaId : Meta → ℕ
 metaId e = e .id
@@ -28,7 +28,7 @@ abbrev pub live : Table → List Meta
 live t = take (t .count) (t .entries)
 
 abbrev pub metaAt : Table → ℕ → Meta
-metaAt t i = getD (t .entries) i blank
+metaAt t i = getD (t .entries) i noMeta
 
 abbrev pub dataOf : List ℕ → Meta → List ℕ
 dataOf m e = take (e .len) (drop (e .slot * dataLimit) m)

@@ -336,7 +336,7 @@ pub fn insert_tlv(
     publish_slot(t, mem, i, id, seq, clock, old.len + bytes.len())
 }
 
-// The node at place i publishes its data without the n bytes from place p.
+// The node at place i publishes its data without the n bytes from place p: one TLV, or several that stand together.
 pub fn remove_tlv(
     t: Table,
     mem: &mut [u8],
@@ -354,6 +354,8 @@ pub fn remove_tlv(
     remove_bytes(mem, old.slot * SLOT, old.len, p, n);
     publish_slot(t, mem, i, id, seq, clock, old.len - n)
 }
+
+// ---- tables to start from
 
 // No node at all.
 pub fn empty() -> Table

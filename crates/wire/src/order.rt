@@ -29,6 +29,7 @@ pub fn is_before(x: &[u8], y: &[u8]) -> bool
     false
 }
 
+// x and y are the same bytes.
 pub fn is_same(x: &[u8], y: &[u8]) -> bool
     ensures { λ r. ⌜ r ≡ same (now (x .entry)) (now (y .entry)) ⌝ }
 {

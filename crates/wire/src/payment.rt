@@ -22,6 +22,7 @@ pub fn fold(x: i32) -> u32
     }
 }
 
+// The amount that is folded to u.
 pub fn unfold(u: u32) -> i32
     ensures { λ r. ⌜ r ≡ unfolded u ⌝ }
 {
@@ -32,6 +33,7 @@ pub fn unfold(u: u32) -> i32
     }
 }
 
+// What a payment value says.
 pub enum Paid {
     Readable {
         household: u32,
