@@ -15,7 +15,7 @@ use Rattle.base.proofs.Sorted.{find-map}
 use Rattle.model.specs.Figures.{tableBytes, lastReading, snapshotBytes}
 use Rattle.model.specs.Table.{Entry, idOf, look}
 use Rattle.model.specs.State.{ownEntry}
-use Rattle.model.specs.Begin.{Done as ModelDone, begun as newly, refusalBegin, begin}
+use Rattle.model.specs.Begin.{Done as ModelDone, begun, refusalBegin, begin}
 use Rattle.model.specs.Tick.{Sent as ModelSent}
 use Rattle.model.specs.Receive.{Answer as ModelAnswer}
 use Rattle.model.specs.Invariant.{Valid}
@@ -91,12 +91,12 @@ kept (x ∷ xs) s m l h f t =
 
 -- ---- starting anew
 
-begun : (own clock : ℕ) (rs : List ℕ) (s : State) (m : List ℕ) (r : Done) → Begins own clock rs s m r → r .number ≡ 0 → paymentsAt (r .state) m ≡ []
+none-begun : (own clock : ℕ) (rs : List ℕ) (s : State) (m : List ℕ) (r : Done) → Begins own clock rs s m r → r .number ≡ 0 → paymentsAt (r .state) m ≡ []
 unfolding begin
-begun own clock rs s m r h z =
+none-begun own clock rs s m r h z =
     let n : r .number ≡ refusalBegin clock (length m) = ap (λ (x : ModelDone). x .number) (h .is) ∙ refusals-exact .begins own clock rs (length m) (stateOf s m) .answered in
     ap (λ (x : ModelDone). ownPayments (x .state))
-    (h .is ∙ sym (as-accepted (r .number) (refusalBegin clock (length m)) n (record { number = 0; state = newly own clock rs }) (λ k. record { number = k; state = stateOf s m }) z))
+    (h .is ∙ sym (as-accepted (r .number) (refusalBegin clock (length m)) n (record { number = 0; state = begun own clock rs }) (λ k. record { number = k; state = stateOf s m }) z))
     ∙ own-payments-stay .begins own clock rs
 
 -- our entry in what is saved
@@ -107,15 +107,15 @@ saved-own clock later s m v =
     find-map (capped clock later) idOf (s .own) (view (s .table) m)
     ∙ ap (λ (o : Option Entry). orElse o none (λ e. some (capped clock later e))) (midway-held (stateOf s m) (v .inside))
 
-resumed-has : (clock later : ℕ) (rs : List ℕ) (s : State) (m q : List ℕ) (r : Saved) (q′ : List ℕ) → AsLeft s m → Saves clock s m q r q′ → r .number ≡ 0
+brought-back : (clock later : ℕ) (rs : List ℕ) (s : State) (m q : List ℕ) (r : Saved) (q′ : List ℕ) → AsLeft s m → Saves clock s m q r q′ → r .number ≡ 0
     → later ≤ lastReading → (u : State) (n : List ℕ) (d : Done) (n′ : List ℕ) → tableBytes ≤ length n → Resumes (take (r .length) q′) later rs u n d n′
     → paymentsAt (d .state) n′ ≡ paymentsAt s m
 unfolding stateOf
-resumed-has clock later rs s m q r q′ l h z fine u n d n′ room g =
+brought-back clock later rs s m q r q′ l h z fine u n d n′ room g =
     let a = numbers-exact .number (PublicCall.looks (Look.saves clock q r q′)) s m h .none .0 z in
     ap ownPayments (saved-comes-back .resumes clock later rs s m q r q′ l h z fine u n d n′ room g .1)
     ∙ own-payments-stay .resumes later rs (snapshotOf clock later s m) (capped clock later (ownEntry (stateOf s m)))
     (saved-own clock later s m (l .valid (not-small-room (length m) (length q) snapshotBytes (a .1 .1 .0) .0)))
 
 pub paid-stays : PaidStays
-paid-stays = record { kept = λ s m xs. kept xs s m; begun = begun; resumed = resumed-has }
+paid-stays = record { kept = λ s m xs. kept xs s m; begun = none-begun; resumed = brought-back }

@@ -130,8 +130,8 @@ steps-stay c l v =
 -- ---- the calls
 
 -- the payments of an entry that was looked for
-abbrev paymentsAt : Option Entry → List (List ℕ)
-paymentsAt o = paymentsOf (orElse o noEntry (λ f. f) .says .nodeData)
+abbrev paymentsFound : Option Entry → List (List ℕ)
+paymentsFound o = paymentsOf (orElse o noEntry (λ f. f) .says .nodeData)
 
 settled : (clock : ℕ) (rs : List ℕ) (s : State) → ownPayments (settle clock rs s) ≡ ownPayments s
 unfolding settle ownEntry
@@ -161,7 +161,7 @@ ticks clock i rs table room s =
 
 reached-payments : (clock : ℕ) (s : State) → look (s .own) (reached (s .own) clock (s .table)) ≡ some (ownEntry s) → ownPayments (withTable (reached (s .own) clock (s .table)) s) ≡ ownPayments s
 unfolding ownEntry
-reached-payments clock s e = ap paymentsAt e
+reached-payments clock s e = ap paymentsFound e
 
 purges : (clock : ℕ) (rs : List ℕ) (table : ℕ) (s : State) → Valid s → ownPayments (purge clock rs table s .state) ≡ ownPayments s
 unfolding purge purged
@@ -199,14 +199,14 @@ pays clock p rs table s z t = rw (accepted clock p rs table s z, paid-payments c
 
 begins : (own clock : ℕ) (rs : List ℕ) → ownPayments (begun own clock rs) ≡ []
 unfolding begun started ownEntry look
-begins own clock rs = ap paymentsAt (find-yes idOf own (entryOf own 0 [] 0 clock) [] refl) ∙ ap (keep isPayment) (tlvs-end [] refl)
+begins own clock rs = ap paymentsFound (find-yes idOf own (entryOf own 0 [] 0 clock) [] refl) ∙ ap (keep isPayment) (tlvs-end [] refl)
 
 resumes : (clock : ℕ) (rs : List ℕ) (b : Snapshot) (e : Entry) → look (b .own) (b .entries) ≡ some e → ownPayments (resumed clock rs b) ≡ paymentsOf (e .says .nodeData)
 unfolding resumed republished started ownEntry
 resumes clock rs b e q =
     let before : Entry = orElse (look (b .own) (b .entries)) noEntry (λ f. f) in
-    ap paymentsAt (look-put (entryOf (b .own) (advance (before .says .seq) 1) (withoutLinks (before .says .nodeData)) 0 clock) (b .entries))
-    ∙ payments-unlinked (before .says .nodeData) ∙ ap paymentsAt q
+    ap paymentsFound (look-put (entryOf (b .own) (advance (before .says .seq) 1) (withoutLinks (before .says .nodeData)) 0 clock) (b .entries))
+    ∙ payments-unlinked (before .says .nodeData) ∙ ap paymentsFound q
 
 pub own-payments-stay : OwnPaymentsStay
 own-payments-stay = record { receives = receives; ticks = ticks; purges = purges; pays = pays; begins = begins; resumes = resumes }

@@ -1,4 +1,4 @@
-// Document 01 as definitions (specs/) with the theorems about them (proofs/), and the one function that every layer above shares: which number is older.
+// Document 01 as definitions (specs/) with the theorems about them (proofs/); as code only the order of sequence numbers.
 ghost use mathlib.Core.Path.{_≡_};
 ghost use Rattle.model.specs.Sequence.{older};
 
