@@ -65,10 +65,10 @@ typedef struct {
 typedef struct {
     uint32_t id;
     uint32_t seq;
-    uint64_t age;   /* in milliseconds, at the reading since */
+    uint32_t age; /* in milliseconds, at the reading since */
+    uint16_t len;
+    uint16_t slot;
     uint64_t since;
-    size_t len;
-    size_t slot;
     uint8_t hash[16];
 } pingvratha_entry;
 

@@ -109,10 +109,10 @@ fn in_range(state: &State) -> bool {
     let Some(entries) = table.entries.get(..table.count) else {
         return false;
     };
-    let mut slots: Vec<usize> = entries.iter().map(|entry| entry.slot).collect();
+    let mut slots: Vec<u16> = entries.iter().map(|entry| entry.slot).collect();
     slots.sort_unstable();
     slots.dedup();
-    let readable = |entry: &ffi::Entry| entry.slot < 32 && entry.len <= MAX_DATA;
+    let readable = |entry: &ffi::Entry| entry.slot < 32 && usize::from(entry.len) <= MAX_DATA;
     slots.len() == table.count
         && entries.iter().all(readable)
         && state.peers.count <= state.peers.list.len()
@@ -329,13 +329,13 @@ impl Calls for Archive {
 
 impl Archive {
     fn node_view(&self, entry: &ffi::Entry) -> NodeView<'_> {
-        let at = entry.slot * MAX_DATA;
+        let at = usize::from(entry.slot) * MAX_DATA;
         NodeView {
             node: entry.id,
             seq: entry.seq,
-            age: entry.age,
+            age: u64::from(entry.age),
             since: entry.since,
-            data: &self.memory[at..at + entry.len],
+            data: &self.memory[at..at + usize::from(entry.len)],
             digest: entry.hash,
         }
     }

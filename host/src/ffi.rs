@@ -31,10 +31,10 @@ pub struct Endpoint {
 pub struct Entry {
     pub id: u32,
     pub seq: u32,
-    pub age: u64,
+    pub age: u32,
+    pub len: u16,
+    pub slot: u16,
     pub since: u64,
-    pub len: usize,
-    pub slot: usize,
     pub hash: [u8; 16],
 }
 

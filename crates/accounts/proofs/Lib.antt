@@ -1,4 +1,3 @@
--- The laws of payments, sums and purging.
+-- The laws of payments and sums.
 pub mod Sums
-pub mod Steps
 pub mod Paying

@@ -1,5 +1,5 @@
 -- A payment into our own data: its TLV as the code writes it, when it is refused, and the state once it is published. Assumes nothing.
-use mathlib.Core.Path.{_≡_, ap, subst}
+use mathlib.Core.Path.{_≡_, sym, ap, subst}
 use mathlib.Core.Bool.{true, false}
 use mathlib.Core.List.{List, [], _∷_}
 use Prim.Native.Nat.{ℕ, _+_, _≤_, _<_}
@@ -22,7 +22,7 @@ use Rattle.wire.proofs.Good.{good-row, good-rises}
 use Rattle.model.specs.Figures.{dataLimit, lastReading}
 use Rattle.model.specs.Sequence.{advance}
 use Rattle.model.specs.Refusals.{firstOf, paidAlready, full}
-use Rattle.model.specs.State.{State as ModelState, ownData, ownSeq, publishAs, publish, withTlv}
+use Rattle.model.specs.State.{State as ModelState, ownData, ownSeq, publishAs, publish, withTlv, settle}
 use Rattle.model.specs.Pay.{paid}
 use Rattle.model.specs.Invariant.{Midway}
 use Rattle.model.proofs.KeptParts.{midway-own}
@@ -30,10 +30,12 @@ use Rattle.model.proofs.KeptCalls.{published-midway}
 use Rattle.table.specs.View.{view}
 use Rattle.reach.specs.declared.Reached.{Reached}
 use Rattle.reach.specs.Marks.{Readable, Reaching}
+use Rattle.reach.proofs.Nodes.{fits-readable}
 use Rattle.node.specs.declared.State.{State}
 use Rattle.node.specs.View.{stateOf, Held, Published, Settled}
+use Rattle.node.proofs.Moves.{published-then}
+use Rattle.node.proofs.Settling.{settled-moved}
 use Rattle.accounts.specs.Tallied.{paymentOf}
-use Rattle.accounts.proofs.Steps.{moved-readable, published-settled}
 
 -- ---- our data
 
@@ -93,9 +95,13 @@ module _ (household receipt : ℕ) (amount : ℤ) (small : SFits w32 amount) (d 
 
     pub paid-readable : Midway clock (stateOf s m) → among (paymentTlv p) (tlvs (ownData (stateOf s m))) ≡ false
         → length (ownData (stateOf s m)) + length (paymentTlv p) ≤ dataLimit → clock ≤ lastReading → Readable clock (r .table) m′ × Held r m′
-    paid-readable w a l t = moved-readable (paid-published .moved) (published-midway clock p (stateOf s m) w a l) t
+    unfolding stateOf
+    paid-readable w a l t =
+        let h : Midway clock (stateOf r m′) = subst (Midway clock) (sym (paid-published .moved .is)) (published-midway clock p (stateOf s m) w a l) in
+        (fits-readable (r .own) clock (r .table) m′ (paid-published .moved .rep .table) (h .table) t, h .table .held)
 
     pub paid-settled : (rs : List ℕ) (x : Reached) (q : State) → Reaching (r .own) clock (view (r .table) m′) x → Settled clock rs (x .digest) r q
         → Published (paid clock p rs (stateOf s m)) s m q m′
     unfolding paid
-    paid-settled rs x q c e = published-settled paid-published rs x q c e
+    paid-settled rs x q c e =
+        published-then (settle clock rs) paid-published (e .table) (settled-moved clock rs (x .digest) r q m′ e (paid-published .moved .rep) (c .digest))

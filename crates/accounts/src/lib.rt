@@ -1,4 +1,3 @@
-// Payments: ours published, everybody's summed; and purging what is out of reach.
+// Payments: ours published, everybody's summed.
 pub mod pay;
-pub mod purge;
 pub mod totals;

@@ -1,6 +1,8 @@
 // A payment into our own data.
+use model::figures::DATA_LIMIT;
+use model::figures::MOST_ENDPOINTS;
+use model::sequence::advanced;
 use node::State;
-use node::publish::advanced;
 use node::publish::own_data;
 use node::publish::own_seq;
 use node::publish::publish_with;
@@ -37,7 +39,7 @@ pub fn refusal(s: State, mem: &[u8], clock: u64, household: u32, receipt: u32, a
     let Standing::Nowhere = standing else {
         return 8;
     };
-    if 1024 < ours.len() + n {
+    if DATA_LIMIT < ours.len() + n {
         return 9;
     }
     0
@@ -51,7 +53,7 @@ pub fn pay(
     household: u32,
     receipt: u32,
     amount: i32,
-    randoms: [u32; 4],
+    randoms: [u32; MOST_ENDPOINTS],
 ) -> State
     requires { ⌜ Rep s (now mem) × (Midway clock (stateOf s (now mem)) × ((clock ≤ lastReading) × ((among (paymentTlv (paymentOf household receipt amount)) (tlvs (ownData (stateOf s (now mem)))) ≡ false) × (length (ownData (stateOf s (now mem))) + length (paymentTlv (paymentOf household receipt amount)) ≤ dataLimit)))) ⌝ }
     ensures { λ r. ⌜ Published (paid clock (paymentOf household receipt amount) randoms (stateOf s (now (mem .entry)))) s (now (mem .entry)) r (now (mem .exit)) ⌝ }
@@ -60,7 +62,6 @@ pub fn pay(
     let n = put_payment(&mut tlv, household, receipt, amount);
     let seq = advanced(own_seq(s, mem), 1);
     let t = publish_with(s, mem, clock, seq, &tlv[..n]);
-    let r = reach(t.table, mem, t.own, clock);
-    let digest = r.digest;
-    settle(t, clock, randoms, digest)
+    let found = reach(t.table, mem, t.own, clock);
+    settle(t, clock, randoms, found)
 }

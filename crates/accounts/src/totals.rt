@@ -1,4 +1,5 @@
 // Sums over the payments that nodes publish.
+use model::figures::MOST_NODES;
 use table::Table;
 use table::data_of;
 use wire::payment::Paid;
@@ -85,7 +86,7 @@ fn add_data(t: Total, w: Whose, nd: &[u8]) -> Total
 }
 
 // The sum over the marked nodes.
-pub fn tally(t: Table, mem: &[u8], marks: [bool; 32], w: Whose) -> Total
+pub fn tally(t: Table, mem: &[u8], marks: [bool; MOST_NODES], w: Whose) -> Total
     requires { ⌜ Kept t (now mem) × AllGood (view t (now mem)) ⌝ }
     ensures { λ r. ⌜ Tallied w (statements (keepBy marks (view t (now (mem .entry))))) r ⌝ }
 {

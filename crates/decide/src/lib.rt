@@ -1,6 +1,8 @@
 // One received Node State's decision: ignored, ask, take the number only, take all, dropped.
 use base::big_endian::read_u32;
-use model::is_older;
+use model::figures::DATA_LIMIT;
+use model::figures::MOST_NODES;
+use model::sequence::is_older;
 use sha256::hash16;
 use table::Entry;
 use table::Found;
@@ -60,7 +62,7 @@ fn is_carrying(hash: &[u8], bytes: &[u8]) -> bool
 fn is_fine(hash: &[u8], bytes: &[u8]) -> bool
     ensures { λ r. ⌜ r ≡ good dataLimit (now (bytes .entry)) && same (hash16 (now (bytes .entry))) (now (hash .entry)) ⌝ }
 {
-    if !is_good(bytes, 1024) {
+    if !is_good(bytes, DATA_LIMIT) {
         return false;
     }
     let digest = hash16(bytes);
@@ -135,7 +137,7 @@ fn decide_new(
     requires { ⌜ Arranged t × Gap t node place ⌝ }
     ensures { λ r. ⌜ ((v : List ℕ) → Fields v node seq age (now (hash .entry)) (now (bytes .entry)) → Decides t v r) ⌝ }
 {
-    if 32 <= t.count {
+    if MOST_NODES <= t.count {
         return Decision::Dropped;
     }
     if !is_carrying(hash, bytes) {

@@ -2,48 +2,65 @@
 use mathlib.Core.Path.{_≡_, refl, sym, ap, _∙_, subst}
 use mathlib.Core.Bool.{Bool, false}
 use mathlib.Core.List.{List}
-use Prim.Native.Nat.{ℕ, _≤_}
+use Prim.Native.Nat.{ℕ, _-_, _≤_}
 use native.Mathlib.Omega.{arith}
-use lib.ListN.{length}
-use Rattle.base.specs.Lists.{any}
+use lib.ListN.{length, set}
 use Rattle.base.specs.Bytes.{Bytes}
+use Rattle.base.specs.Lists.{any}
 use Rattle.base.proofs.Tests.{no-way}
-use Rattle.wire.specs.Row.{tlvs}
+use Rattle.wire.specs.Row.{valueOf, tlvs}
+use Rattle.wire.specs.Answers.{tlvOf, Tells}
+use Rattle.wire.specs.declared.row.Header.{Header}
 use Rattle.model.specs.Figures.{mostBytes, lastReading}
 use Rattle.model.specs.Table.{Entry}
 use Rattle.model.specs.Digest.{networkDigest}
 use Rattle.model.specs.State.{State as ModelState, settle}
-use Rattle.model.specs.Handle.{Context as ModelContext, Work as ModelWork, allTlvs, eachTable}
+use Rattle.model.specs.Handle.{Context as ModelContext, Work as ModelWork, onTlv, allTlvs, eachTable}
 use Rattle.model.specs.Receive.{Answer, aboutOther, contextOf as callContext, startOf, handled, answered}
 use Rattle.model.specs.Invariant.{Midway}
-use Rattle.model.proofs.KeptReceive.{handled-kept}
 use Rattle.table.specs.View.{view, Wrote}
 use Rattle.table.specs.declared.Table.{Table}
 use Rattle.reach.specs.declared.Reached.{Reached}
 use Rattle.node.specs.declared.State.{State}
-use Rattle.node.specs.View.{stateOf, Rep, Settled}
-use Rattle.node.proofs.Parts.{state-own}
+use Rattle.node.specs.declared.Endpoint.{Endpoint}
+use Rattle.node.specs.declared.peers.Peers.{Peers}
+use Rattle.node.specs.View.{peersOf, stateOf, PeersRep, Rep, Settled}
+use Rattle.node.proofs.Parts.{state-own, putEndpoints}
 use Rattle.reply.specs.declared.Context.{Context}
-use Rattle.reply.specs.declared.Work.{Work}
-use Rattle.reply.specs.View.{contextOf, workOf, Ready, Markable}
-use Rattle.reply.proofs.Steps.{work-state, work-out, work-omitted, work-dropped}
-use Rattle.exchange.specs.Datagram.{callOf, Ran, tablesOf, Handled}
+use Rattle.reply.specs.declared.Progress.{Progress}
+use Rattle.reply.specs.View.{contextOf, Work, gather, workOf, Ready, Open}
+use Rattle.reply.proofs.Steps.{work-state, work-out, work-omitted, work-dropped, ready-open}
+use Rattle.exchange.specs.declared.Step.{Step}
+use Rattle.exchange.specs.Told.{Answered, TableAfter, greetedIn, touchedIn, Told}
+use Rattle.exchange.proofs.Asides.{aside, open-aside}
+use Rattle.exchange.proofs.Telling.{one-carried}
+use Rattle.exchange.proofs.Tlvs.{Through, through-on}
+use Rattle.exchange.specs.Datagram.{atStart, callOf, Ran, tablesOf, Handled}
 
--- no sender, nothing written, marks and digest not worked out
-abbrev pub firstWork : State → Reached → Work
-firstWork s g =
-    record { state = s; sender = record { known = false; node = 0; endpoint = 0 }; used = 0; omitted = 0; dropped = 0; fresh = false; reached = g }
+abbrev pub contextIn : ℕ → ℕ → ℕ → Bool → Bool → Context
+contextIn own clock endpoint unicast others = record { own = own; clock = clock; endpoint = endpoint; unicast = unicast; others = others }
 
-abbrev pub contextIn : ℕ → ℕ → Bool → Bool → Context
-contextIn clock endpoint unicast others = record { clock = clock; endpoint = endpoint; unicast = unicast; others = others }
+-- the call's: a Node State about another is in the datagram, or none is
+abbrev pub callIn : State → List ℕ → ℕ → ℕ → Bool → Context
+callIn s d clock endpoint unicast = contextIn (s .own) clock endpoint unicast (any (aboutOther (s .own)) (tlvs d))
+
+abbrev pub firstWork : Context → State → Endpoint → Reached → Work
+firstWork c s e g = gather c s (s .table) (s .peers) (atStart e g)
+
+-- the parts of the state are the state
+first-state : (s : State) (clock endpoint : ℕ) (unicast others : Bool) (e : Endpoint) (g : Reached) → set (s .endpoints) (endpoint - 1) e ≡ s .endpoints
+    → firstWork (contextIn (s .own) clock endpoint unicast others) s e g .state ≡ s
+first-state s clock endpoint unicast others e g q = ap (λ (es : List Endpoint). putEndpoints es s) q
 
 -- the first TLV can come
-pub first-ready : (s : State) (m r : List ℕ) (clock endpoint : ℕ) (unicast others : Bool) (g : Reached) → Rep s m → Midway clock (stateOf s m) → clock ≤ lastReading
-    → 1 ≤ endpoint → endpoint ≤ 4 → mostBytes ≤ length r → Ready (contextIn clock endpoint unicast others) (firstWork s g) m r
-first-ready s m r clock endpoint unicast others g k i l low high big =
+pub first-ready : (s : State) (m r : List ℕ) (clock endpoint : ℕ) (unicast others : Bool) (e : Endpoint) (g : Reached) → set (s .endpoints) (endpoint - 1) e ≡ s .endpoints
+    → Rep s m → Midway clock (stateOf s m) → clock ≤ lastReading
+    → 1 ≤ endpoint → endpoint ≤ 4 → mostBytes ≤ length r → Ready (contextIn (s .own) clock endpoint unicast others) (firstWork (contextIn (s .own) clock endpoint unicast others) s e g) m r
+first-ready s m r clock endpoint unicast others e g q k i l low high big =
+    let z : firstWork (contextIn (s .own) clock endpoint unicast others) s e g .state ≡ s = first-state s clock endpoint unicast others e g q in
     record {
-      sound = record { rep = k; used = omega arith; room = big; cached = λ f. no-way false f refl };
-      midway = i;
+      sound = record { rep = subst (λ (x : State). Rep x m) (sym z) k; used = omega arith; room = big; headed = refl; cached = λ f. no-way false f refl };
+      midway = subst (λ (x : State). Midway clock (stateOf x m)) (sym z) i;
       clock = l;
       first = low;
       fourth = high;
@@ -51,53 +68,68 @@ first-ready s m r clock endpoint unicast others g k i l low high big =
       dropped = omega arith;
     }
 
+-- ---- one TLV more, its act carried out
+
+module _ (s : State) (dg : List ℕ) (clock endpoint : ℕ) (unicast : Bool) (w : Work) (m r : List ℕ) (at : ℕ) (t : Table) (p : Peers) (d : Progress) (m′ r′ : List ℕ)
+    (l : Through (callIn s dg clock endpoint unicast) dg w m r at (gather (callIn s dg clock endpoint unicast) s t p d) m′ r′) (h : Header) (k : Tells dg at h)
+    (found : Bool) (e : h .kind ≡ 4 → found ≡ any (aboutOther (s .own)) (tlvs dg)) where
+  -- what the TLV may rely on
+  pub tlv-open : Open (contextIn (s .own) clock endpoint unicast found) t d m′ r′
+  tlv-open = open-aside found (ready-open s p (l .ready))
+
+  pub carried-on : Bytes dg → length dg ≤ mostBytes → w .omitted ≡ 0 → w .dropped ≡ 0 → (v : List ℕ) → valueOf (tlvOf dg at h) ≡ v → (x : Step)
+      → Told (contextIn (s .own) clock endpoint unicast found) 33 (onTlv (contextOf (contextIn (s .own) clock endpoint unicast found)) (h .kind) v) v t p d m′ x
+      → (u : Progress) (r″ : List ℕ) → Answered (contextIn (s .own) clock endpoint unicast found) (x .act) t (x .progress) m′ r′ u r″
+      → (t′ : Table) (m″ : List ℕ) → TableAfter (contextIn (s .own) clock endpoint unicast found) v (x .progress .sender) (x .act) t m′ t′ m″
+      → (q : Peers) → PeersRep q
+      → peersOf q ≡ touchedIn (contextIn (s .own) clock endpoint unicast found) (x .progress .sender) (x .act) (greetedIn (contextIn (s .own) clock endpoint unicast found) (x .progress .sender) (x .act) (peersOf p))
+      → Through (callIn s dg clock endpoint unicast) dg w m r (h .next) (gather (callIn s dg clock endpoint unicast) s t′ q u) m″ r″
+  carried-on b few o g v z x y u r″ a t′ m″ n q f j =
+      let c : Context = callIn s dg clock endpoint unicast in
+      through-on c dg w m r at (gather c s t p d) m′ r′ l h k b few o g (gather c s t′ q u) m″ r″
+      (aside (c .others) (tlvOf dg at h)
+      (one-carried y (l .ready .first, l .ready .fourth) s r′ (l .ready .sound) (tlvOf dg at h) (sym (k .kind)) z u r″ a t′ m″ n q f j)
+      (λ i. e (k .kind ∙ i)))
+
 same-answer : {s s′ : ModelState} {b b′ : List ℕ} {o o′ d d′ : ℕ} → s ≡ s′ → b ≡ b′ → o ≡ o′ → d ≡ d′
     → _≡_ {A = Answer} (record { number = 0; state = s; bytes = b; omitted = o; dropped = d }) (record { number = 0; state = s′; bytes = b′; omitted = o′; dropped = d′ })
 same-answer e1 e2 e3 e4 = cc
 
-module _ (s : State) (m r d : List ℕ) (clock endpoint : ℕ) (unicast others : Bool) (g : Reached) (e : others ≡ any (aboutOther (s .own)) (tlvs d)) (v : Work) (m′ r′ : List ℕ)
-    (p : Ran (contextIn clock endpoint unicast others) (tlvs d) (firstWork s g) m r v m′ r′) (randoms : List ℕ) where
-  first-start : workOf (firstWork s g) m r ≡ startOf (stateOf s m)
+module _ (s : State) (m r d : List ℕ) (clock endpoint : ℕ) (unicast others : Bool) (l : Endpoint) (g : Reached) (y : set (s .endpoints) (endpoint - 1) l ≡ s .endpoints)
+    (e : others ≡ any (aboutOther (s .own)) (tlvs d)) (v : Work) (m′ r′ : List ℕ)
+    (p : Ran (contextIn (s .own) clock endpoint unicast others) (tlvs d) (firstWork (contextIn (s .own) clock endpoint unicast others) s l g) m r v m′ r′)
+    (randoms : List ℕ) where
+  first-start : workOf (firstWork (contextIn (s .own) clock endpoint unicast others) s l g) m r ≡ startOf (stateOf s m)
   unfolding workOf
-  first-start = refl
+  first-start = ap (λ (x : State). startOf (stateOf x m)) (first-state s clock endpoint unicast others l g y)
 
-  same-context : contextOf (contextIn clock endpoint unicast others) ≡ callContext (stateOf s m) (callOf d clock endpoint unicast randoms (length m) (length r))
+  same-context : contextOf (contextIn (s .own) clock endpoint unicast others) ≡ callContext (stateOf s m) (callOf d clock endpoint unicast randoms (length m) (length r))
   same-context = rw (state-own s m, e)
 
   -- the work at the end is the model's
   handled-is : workOf v m′ r′ ≡ handled (stateOf s m) (callOf d clock endpoint unicast randoms (length m) (length r))
   unfolding handled
   handled-is =
-      p .is ∙ ap (λ (x : ModelContext). allTlvs x (tlvs d) (workOf (firstWork s g) m r)) same-context
+      p .is ∙ ap (λ (x : ModelContext). allTlvs x (tlvs d) (workOf (firstWork (contextIn (s .own) clock endpoint unicast others) s l g) m r)) same-context
       ∙ ap (allTlvs (callContext (stateOf s m) (callOf d clock endpoint unicast randoms (length m) (length r))) (tlvs d)) first-start
 
   -- and so are the tables passed through
   passed-is : Wrote (s .table) m (tablesOf (stateOf s m) (callOf d clock endpoint unicast randoms (length m) (length r))) (v .state .table) m′
   passed-is =
       subst (λ (es : List Entry). Wrote (s .table) m es (v .state .table) m′)
-      (ap (λ (x : ModelContext). eachTable x (tlvs d) (workOf (firstWork s g) m r)) same-context
+      (ap (λ (x : ModelContext). eachTable x (tlvs d) (workOf (firstWork (contextIn (s .own) clock endpoint unicast others) s l g) m r)) same-context
       ∙ ap (eachTable (callContext (stateOf s m) (callOf d clock endpoint unicast randoms (length m) (length r))) (tlvs d)) first-start)
       (p .wrote)
-
-  -- marks and digest can be worked out
-  pub handled-markable : Bytes d → Midway clock (stateOf s m) → clock ≤ lastReading → 1 ≤ endpoint → endpoint ≤ 4 → Markable (contextIn clock endpoint unicast others) v m′
-  handled-markable b i l low high =
-      record {
-        rep = p .sound .rep;
-        midway = subst (Midway clock) (sym (sym (work-state v m′ r′) ∙ ap (λ (x : ModelWork). x .state) handled-is))
-            (handled-kept (callOf d clock endpoint unicast randoms (length m) (length r)) (stateOf s m) low high b i);
-        clock = l;
-        cached = p .sound .cached;
-      }
 
   -- and what stands last: the state settled with the digest x
   module _ (x : List ℕ) (h : x ≡ networkDigest (v .state .own) clock (view (v .state .table) m′)) (q : State) (k : Settled clock randoms x (v .state) q) where
     settled-is : stateOf q m′ ≡ settle clock randoms (workOf v m′ r′ .state)
     settled-is = k .is m′ h ∙ ap (settle clock randoms) (sym (work-state v m′ r′))
 
-    pub received : Handled s m r d clock endpoint unicast randoms (record { state = q; length = v .used; omitted = v .omitted; dropped = v .dropped }) m′ r′
+    pub received : Handled s m r d clock endpoint unicast randoms (record { number = 0; state = q; length = v .used; omitted = v .omitted; dropped = v .dropped }) m′ r′
     received =
         record {
+          accepted = refl;
           rep = k .rep m′ (p .sound .rep);
           is = same-answer settled-is (sym (work-out v m′ r′)) (sym (work-omitted v m′ r′)) (sym (work-dropped v m′ r′))
               ∙ ap (answered (callOf d clock endpoint unicast randoms (length m) (length r))) handled-is;

@@ -1,8 +1,12 @@
-pub mod Peers
-pub mod Networks
-pub mod Statements
--- The laws of a TLV's handling, of the TLVs one after the other, and of a datagram as a whole.
-pub mod Others
-pub mod Tlvs
-pub mod Passed
+pub mod Asides
+pub mod Carrying
 pub mod Datagrams
+pub mod Networks
+pub mod Others
+pub mod Passed
+pub mod Peers
+pub mod Requests
+pub mod Statements
+pub mod Telling
+pub mod Tlvs
+pub mod Touching

@@ -1,13 +1,11 @@
 -- TLVs as steps: by the type, over unicast or multicast, and one after the other. Assumes nothing.
 use mathlib.Core.Path.{_≡_, refl, sym, ap, _∙_, subst}
-use mathlib.Core.Bool.{true, false, not}
+use mathlib.Core.Bool.{true}
 use mathlib.Core.List.{List, [], _++_, append-nil, append-assoc}
 use Prim.Native.Nat.{ℕ, _+_, _*_, _≤_, _<_}
 use native.Mathlib.Omega.{arith}
 use lib.ListN.{length, take, drop, length-drop}
-use borrow.Author.Tests.{not-false}
 use Rattle.base.specs.Bytes.{Bytes, u32At}
-use Rattle.base.proofs.Tests.{no-not}
 use Rattle.base.proofs.Lists.{drop-later}
 use Rattle.base.proofs.Bytes.{bytes-take, bytes-drop}
 use Rattle.wire.specs.Row.{typeOf, valueOf, isRow, tlvs}
@@ -17,99 +15,78 @@ use Rattle.wire.proofs.Rows.{tlvs-end}
 use Rattle.model.specs.Figures.{mostBytes, tableBytes}
 use Rattle.model.specs.Table.{Entry}
 use Rattle.model.specs.Decide.{receivedOf}
-use Rattle.model.specs.Handle.{Work as ModelWork, touch, onRequestNetwork, onRequestNode, onEndpoint, onNetwork, onState, onTlv, oneTlv, allTlvs, eachTable}
+use Rattle.model.specs.Handle.{Work as ModelWork, onRequestNetwork, onRequestNode, onEndpoint, onNetwork, onState, onTlv, oneTlv, allTlvs, eachTable}
 use Rattle.model.specs.Invariant.{Midway}
-use Rattle.model.proofs.Cases.{on-request-network, on-request-node, on-request-node-short, on-endpoint, on-endpoint-short, on-network, on-network-short, on-state, on-state-short, on-other, one-tlv-unicast, one-tlv-multicast, all-tlvs-none, all-tlvs-next, each-table-none, each-table-next}
-use Rattle.model.proofs.OneCall.{touch-seen}
+use Rattle.model.proofs.Cases.{on-request-network, on-request-node, on-request-node-short, on-endpoint, on-endpoint-short, on-network, on-network-short, on-state, on-state-short, on-other, all-tlvs-none, all-tlvs-next, each-table-none, each-table-next}
 use Rattle.model.proofs.KeptSteps.{one-holds}
 use Rattle.model.proofs.KeptReceive.{steps-kept}
+use Rattle.table.specs.declared.Table.{Table}
 use Rattle.table.specs.View.{view, Wrote}
 use Rattle.table.proofs.Laying.{wrote-none, wrote-then}
+use Rattle.node.specs.declared.peers.Peers.{Peers}
 use Rattle.reply.specs.declared.Context.{Context}
-use Rattle.reply.specs.declared.Work.{Work}
-use Rattle.reply.specs.View.{contextOf, workOf, Ready, Stepped}
-use Rattle.reply.proofs.Steps.{work-state, work-table, stepped-none, stepped-to, stepped-more, stepped-last, ready-next}
+use Rattle.reply.specs.declared.Progress.{Progress}
+use Rattle.reply.specs.View.{contextOf, Work, gather, workOf, Ready, Stepped}
+use Rattle.exchange.specs.declared.Step.{Step}
 use Rattle.exchange.specs.Datagram.{Ran}
+use Rattle.exchange.specs.Told.{stillAt, Told}
+use Rattle.reply.proofs.Steps.{work-state, work-table, stepped-none, stepped-to, stepped-more, ready-next}
+use Rattle.exchange.proofs.Telling.{told-still, told-to}
 
 -- ---- the type decides
 
-module _ (c : Context) (w : Work) (m r : List ℕ) (kind : ℕ) (x : List ℕ) where
+module _ (c : Context) (t : Table) (p : Peers) (d : Progress) (m : List ℕ) (kind : ℕ) (x : List ℕ) where
+  -- the step that the type asks for
+  abbrev Handles : Step → Type 0
+  Handles y = Told c 33 (onTlv (contextOf c) kind x) x t p d m y
+
   -- passed over: too short, or another type
-  module _ (h : Ready c w m r) where
-    passed-over : onTlv (contextOf c) kind x (workOf w m r) ≡ workOf w m r → Stepped c 33 (onTlv (contextOf c) kind x) w m r w m r
-    passed-over e = stepped-more (stepped-to (stepped-none (h .sound)) (onTlv (contextOf c) kind x) (sym e)) 33 (omega arith)
+  passed-over : ((w : ModelWork) → onTlv (contextOf c) kind x w ≡ w) → Handles (stillAt d)
+  passed-over e =
+      told-still x (λ r o. o) (λ b r h. stepped-more (stepped-to (stepped-none h) (onTlv (contextOf c) kind x) (sym (e (workOf (gather c b t p d) m r)))) 33 (omega arith))
 
-    pub short-node : kind ≡ 2 → length x < 4 → Stepped c 33 (onTlv (contextOf c) kind x) w m r w m r
-    short-node e l = passed-over (on-request-node-short (contextOf c) (workOf w m r) kind x e l)
+  pub short-node : kind ≡ 2 → length x < 4 → Handles (stillAt d)
+  short-node e l = passed-over (λ w. on-request-node-short (contextOf c) w kind x e l)
 
-    pub short-endpoint : kind ≡ 3 → length x < 8 → Stepped c 33 (onTlv (contextOf c) kind x) w m r w m r
-    short-endpoint e l = passed-over (on-endpoint-short (contextOf c) (workOf w m r) kind x e l)
+  pub short-endpoint : kind ≡ 3 → length x < 8 → Handles (stillAt d)
+  short-endpoint e l = passed-over (λ w. on-endpoint-short (contextOf c) w kind x e l)
 
-    pub short-network : kind ≡ 4 → length x < 16 → Stepped c 33 (onTlv (contextOf c) kind x) w m r w m r
-    short-network e l = passed-over (on-network-short (contextOf c) (workOf w m r) kind x e l)
+  pub short-network : kind ≡ 4 → length x < 16 → Handles (stillAt d)
+  short-network e l = passed-over (λ w. on-network-short (contextOf c) w kind x e l)
 
-    pub short-state : kind ≡ 5 → length x < 28 → Stepped c 33 (onTlv (contextOf c) kind x) w m r w m r
-    short-state e l = passed-over (on-state-short (contextOf c) (workOf w m r) kind x e l)
+  pub short-state : kind ≡ 5 → length x < 28 → Handles (stillAt d)
+  short-state e l = passed-over (λ w. on-state-short (contextOf c) w kind x e l)
 
-    pub other-type : ¬ (kind ≡ 1) → ¬ (kind ≡ 2) → ¬ (kind ≡ 3) → ¬ (kind ≡ 4) → ¬ (kind ≡ 5) → Stepped c 33 (onTlv (contextOf c) kind x) w m r w m r
-    other-type n1 n2 n3 n4 n5 = passed-over (on-other (contextOf c) (workOf w m r) kind x n1 n2 n3 n4 n5)
+  pub other-type : ¬ (kind ≡ 1) → ¬ (kind ≡ 2) → ¬ (kind ≡ 3) → ¬ (kind ≡ 4) → ¬ (kind ≡ 5) → Handles (stillAt d)
+  other-type n1 n2 n3 n4 n5 = passed-over (λ w. on-other (contextOf c) w kind x n1 n2 n3 n4 n5)
 
-  module _ {v : Work} {m′ r′ : List ℕ} where
-    pub network-asked : kind ≡ 1 → Stepped c 33 (onRequestNetwork (contextOf c)) w m r v m′ r′ → Stepped c 33 (onTlv (contextOf c) kind x) w m r v m′ r′
-    network-asked e s = stepped-to s (onTlv (contextOf c) kind x) (sym (on-request-network (contextOf c) (workOf w m r) kind x e))
+  -- handled
+  module _ {y : Step} where
+    handled-as : {k : ℕ} (f : ModelWork → ModelWork) → k ≤ 33 → ((w : ModelWork) → onTlv (contextOf c) kind x w ≡ f w) → Told c k f x t p d m y → Handles y
+    handled-as f l e s = told-to x s 33 (onTlv (contextOf c) kind x) l (λ b r h. sym (e (workOf (gather c b t p d) m r)))
 
-    pub node-asked : kind ≡ 2 → 4 ≤ length x → (n : ℕ) → n ≡ u32At x 0 → Stepped c 1 (onRequestNode (contextOf c) n) w m r v m′ r′
-        → Stepped c 33 (onTlv (contextOf c) kind x) w m r v m′ r′
-    node-asked e l n q s =
-        stepped-more
-        (stepped-to s (onTlv (contextOf c) kind x)
-        (sym (on-request-node (contextOf c) (workOf w m r) kind x e l ∙ ap (λ (i : ℕ). onRequestNode (contextOf c) i (workOf w m r)) (sym q))))
-        33 (omega arith)
+    pub network-asked : kind ≡ 1 → Told c 33 (onRequestNetwork (contextOf c)) x t p d m y → Handles y
+    network-asked e = handled-as (onRequestNetwork (contextOf c)) (omega arith) (λ w. on-request-network (contextOf c) w kind x e)
+
+    pub node-asked : kind ≡ 2 → 4 ≤ length x → (n : ℕ) → n ≡ u32At x 0 → Told c 1 (onRequestNode (contextOf c) n) x t p d m y → Handles y
+    node-asked e l n q =
+        handled-as (onRequestNode (contextOf c) n) (omega arith)
+        (λ w. on-request-node (contextOf c) w kind x e l ∙ ap (λ (i : ℕ). onRequestNode (contextOf c) i w) (sym q))
 
     pub endpoint-met : kind ≡ 3 → 8 ≤ length x → (n i : ℕ) → n ≡ u32At x 0 → i ≡ u32At x 4
-        → Stepped c 1 (onEndpoint (contextOf c) (record { node = n; endpoint = i })) w m r v m′ r′
-        → Stepped c 33 (onTlv (contextOf c) kind x) w m r v m′ r′
-    endpoint-met e l n i p q s =
-        stepped-more
-        (stepped-to s (onTlv (contextOf c) kind x)
-        (sym
-        (on-endpoint (contextOf c) (workOf w m r) kind x e l
-        ∙ ap (λ (y : ℕ). onEndpoint (contextOf c) (record { node = y; endpoint = u32At x 4 }) (workOf w m r)) (sym p)
-        ∙ ap (λ (y : ℕ). onEndpoint (contextOf c) (record { node = n; endpoint = y }) (workOf w m r)) (sym q))))
-        33 (omega arith)
+        → Told c 1 (onEndpoint (contextOf c) (record { node = n; endpoint = i })) x t p d m y → Handles y
+    endpoint-met e l n i a z =
+        handled-as (onEndpoint (contextOf c) (record { node = n; endpoint = i })) (omega arith)
+        (λ w. on-endpoint (contextOf c) w kind x e l
+        ∙ ap (λ (j : ℕ). onEndpoint (contextOf c) (record { node = j; endpoint = u32At x 4 }) w) (sym a)
+        ∙ ap (λ (j : ℕ). onEndpoint (contextOf c) (record { node = n; endpoint = j }) w) (sym z))
 
-    pub network-met : kind ≡ 4 → 16 ≤ length x → (d : List ℕ) → d ≡ take 16 x → Stepped c 1 (onNetwork (contextOf c) d) w m r v m′ r′
-        → Stepped c 33 (onTlv (contextOf c) kind x) w m r v m′ r′
-    network-met e l d q s =
-        stepped-more
-        (stepped-to s (onTlv (contextOf c) kind x)
-        (sym (on-network (contextOf c) (workOf w m r) kind x e l ∙ ap (λ (y : List ℕ). onNetwork (contextOf c) y (workOf w m r)) (sym q))))
-        33 (omega arith)
+    pub network-met : kind ≡ 4 → 16 ≤ length x → (g : List ℕ) → g ≡ take 16 x → Told c 1 (onNetwork (contextOf c) g) x t p d m y → Handles y
+    network-met e l g q =
+        handled-as (onNetwork (contextOf c) g) (omega arith) (λ w. on-network (contextOf c) w kind x e l ∙ ap (λ (j : List ℕ). onNetwork (contextOf c) j w) (sym q))
 
-    pub state-met : kind ≡ 5 → 28 ≤ length x → Stepped c 1 (onState (contextOf c) (receivedOf x)) w m r v m′ r′
-        → Stepped c 33 (onTlv (contextOf c) kind x) w m r v m′ r′
-    state-met e l s =
-        stepped-more (stepped-to s (onTlv (contextOf c) kind x) (sym (on-state (contextOf c) (workOf w m r) kind x e l))) 33 (omega arith)
-
--- ---- over unicast a known sender's last contact is set
-
--- which leaves every entry as it was
-touch-view : {c : Context} {v : Work} {m r : List ℕ} {u : Work} {r′ : List ℕ} → Stepped c 0 (touch (contextOf c)) v m r u m r′ → view (u .state .table) m ≡ view (v .state .table) m
-touch-view {c} {v} {m} {r} {u} {r′} n =
-    sym (work-table u m r′) ∙ ap (λ (w : ModelWork). w .state .table) (n .is) ∙ ap (λ (p : ℕ × List Entry). p .1) (touch-seen (contextOf c) (workOf v m r)) ∙ work-table v m r
-
-module _ {c : Context} {w : Work} {m r : List ℕ} {kind : ℕ} {x : List ℕ} {v : Work} {m′ r′ : List ℕ} (s : Stepped c 33 (onTlv (contextOf c) kind x) w m r v m′ r′)
-    (t : List ℕ) (p : typeOf t ≡ kind) (q : valueOf t ≡ x) where
-  same-tlv : onTlv (contextOf c) (typeOf t) (valueOf t) (workOf w m r) ≡ onTlv (contextOf c) kind x (workOf w m r)
-  same-tlv = rw (p, q)
-
-  pub one-multicast : not (c .unicast) ≡ true → Stepped c 33 (oneTlv (contextOf c) t) w m r v m′ r′
-  one-multicast e = stepped-to s (oneTlv (contextOf c) t) (sym (one-tlv-multicast (contextOf c) (workOf w m r) t (no-not (c .unicast) e) ∙ same-tlv))
-
-  pub one-unicast : not (c .unicast) ≡ false → {u : Work} {r″ : List ℕ} → Stepped c 0 (touch (contextOf c)) v m′ r′ u m′ r″ → Stepped c 33 (oneTlv (contextOf c) t) w m r u m′ r″
-  one-unicast e {u} {r″} n =
-      stepped-to (stepped-last s n (touch-view n)) (oneTlv (contextOf c) t)
-      (sym (one-tlv-unicast (contextOf c) (workOf w m r) t (not-false (c .unicast) e) ∙ ap (touch (contextOf c)) same-tlv))
+    pub state-met : kind ≡ 5 → 28 ≤ length x → Told c 1 (onState (contextOf c) (receivedOf x)) x t p d m y → Handles y
+    state-met e l = handled-as (onState (contextOf c) (receivedOf x)) (omega arith) (λ w. on-state (contextOf c) w kind x e l)
 
 -- ---- the TLVs of a datagram one after the other
 

@@ -1,2 +1,3 @@
-pub mod Passed
 pub mod Datagram
+pub mod Passed
+pub mod Told

@@ -1,14 +1,21 @@
 // A datagram, TLV by TLV, and what stands last.
+use crate::carry::altered;
+use crate::carry::answered;
+use crate::carry::is_altering;
+use crate::carry::is_meeting;
+use crate::carry::met;
+use crate::marks::refreshed;
 use crate::tlv::is_idle;
-use crate::tlv::one_tlv;
+use crate::tlv::on_tlv;
 use base::big_endian::read_u32;
+use node::Endpoint;
 use node::State;
-use node::settle::settle;
+use node::answers::Answer;
+use node::settle::settled;
 use reach::Reached;
-use reach::reach;
 use reply::Context;
+use reply::Progress;
 use reply::Sender;
-use reply::Work;
 use wire::row::Header;
 use wire::row::tlv_at;
 ghost use mathlib.Core.Path.{_≡_};
@@ -19,13 +26,11 @@ ghost use Rattle.base.specs.Lists.{any};
 ghost use Rattle.wire.specs.Row.{isRow, tlvs};
 ghost use Rattle.wire.specs.Answers.{tlvOf, Tells};
 ghost use Rattle.model.specs.Figures.{mostBytes, lastReading};
-ghost use Rattle.model.specs.Digest.{networkDigest};
 ghost use Rattle.model.specs.Receive.{aboutOther};
 ghost use Rattle.model.specs.Invariant.{Midway};
-ghost use Rattle.table.specs.View.{view};
 ghost use Rattle.node.specs.View.{stateOf, Rep};
-ghost use Rattle.reply.specs.View.{Ready, Markable};
-ghost use Rattle.exchange.specs.Datagram.{Ran, Handled};
+ghost use Rattle.exchange.specs.Datagram.{atStart, Handled};
+ghost use Rattle.reach.specs.declared.Reached.{Reached};
 
 // The TLV is a Node State, long enough, about another node.
 fn is_other(s: &[u8], at: usize, h: Header, own: u32) -> bool
@@ -58,47 +63,53 @@ fn has_other(s: &[u8], own: u32) -> bool
     false
 }
 
-// The TLVs one after the other. One that changes nothing is skipped: the work is large, and a step copies it.
-fn all_tlvs(w: Work, mem: &mut [u8], room: &mut [u8], c: Context, datagram: &[u8]) -> Work
-    requires { ⌜ Ready c w (now mem) (now room) × ((w .omitted ≡ 0) × ((w .dropped ≡ 0) × ((isRow (now datagram) ≡ true) × (length (now datagram) ≤ mostBytes)))) ⌝ }
-    ensures { λ v. ⌜ Ran c (tlvs (now (datagram .entry))) w (now (mem .entry)) (now (room .entry)) v (now (mem .exit)) (now (room .exit)) ⌝ }
+// Whether such a TLV is in the datagram, once that is known.
+struct Others {
+    known: bool,
+    found: bool,
+}
+
+// It is worked out at the first Network State TLV; no other type asks.
+fn looked(o: Others, s: &[u8], own: u32, kind: u16) -> Others
+    requires { ⌜ (isRow (now s) ≡ true) × (o .known ≡ true → o .found ≡ any (aboutOther own) (tlvs (now s))) ⌝ }
+    ensures { λ r. ⌜ (r .known ≡ true → r .found ≡ any (aboutOther own) (tlvs (now (s .entry)))) × (kind ≡ 4 → r .found ≡ any (aboutOther own) (tlvs (now (s .entry)))) ⌝ }
 {
-    let mut v = w;
-    let mut at = 0;
-    while at < datagram.len() {
-        let h = tlv_at(datagram, at);
-        at = h.next;
-        if is_idle(c.unicast, v.sender.known, h.kind) {
-            continue;
-        }
-        let a = h.start;
-        let b = a + h.len;
-        v = one_tlv(v, mem, room, c, h.kind, &datagram[a..b]);
+    if kind != 4 {
+        return o;
     }
-    v
+    if o.known {
+        return o;
+    }
+    Others {
+        known: true,
+        found: has_other(s, own),
+    }
 }
 
-// What a datagram leaves: the state, how many bytes were written, replies omitted, TLVs dropped.
-pub struct Outcome {
-    pub state: State,
-    pub length: usize,
-    pub omitted: u32,
-    pub dropped: u32,
-}
-
-// The network digest once all TLVs are handled; worked out, unless nothing has changed since it was.
-fn last_digest(w: Work, mem: &[u8], c: Context) -> [u8; 16]
-    requires { ⌜ Markable c w (now mem) ⌝ }
-    ensures { λ r. ⌜ r ≡ networkDigest (w .state .own) (c .clock) (view (w .state .table) (now (mem .entry))) ⌝ }
+// No sender, nothing written, marks not worked out.
+fn at_start(local: Endpoint) -> Progress
+    ensures { λ d. ⌜ ((g : Reached) × (d ≡ atStart local g)) ⌝ }
 {
-    if w.fresh {
-        return w.reached.digest;
+    Progress {
+        local,
+        sender: Sender {
+            known: false,
+            node: 0,
+            endpoint: 0,
+        },
+        headed: false,
+        used: 0,
+        omitted: 0,
+        dropped: 0,
+        fresh: false,
+        reached: Reached {
+            marks: [false; 32],
+            digest: [0; 16],
+        },
     }
-    let r = reach(w.state.table, mem, w.state.own, c.clock);
-    r.digest
 }
 
-// A datagram that is not refused.
+// A datagram that is not refused: TLV by TLV it is decided what is asked for, and that is carried out. One that changes nothing is skipped.
 pub fn handle(
     s: State,
     mem: &mut [u8],
@@ -108,38 +119,61 @@ pub fn handle(
     endpoint: u32,
     unicast: bool,
     randoms: [u32; 4],
-) -> Outcome
+) -> Answer
     requires { ⌜ Rep s (now mem) × (Midway clock (stateOf s (now mem)) × ((clock ≤ lastReading) × ((1 ≤ endpoint) × ((endpoint ≤ 4) × ((mostBytes ≤ length (now room)) × ((isRow (now datagram) ≡ true) × (length (now datagram) ≤ mostBytes))))))) ⌝ }
     ensures { λ r. ⌜ Handled s (now (mem .entry)) (now (room .entry)) (now (datagram .entry)) clock endpoint unicast randoms r (now (mem .exit)) (now (room .exit)) ⌝ }
 {
-    let c = Context {
+    let k = (endpoint - 1) as usize;
+    let mut endpoints = s.endpoints;
+    let local = endpoints[k];
+    let call = Context {
+        own: s.own,
         clock,
         endpoint,
         unicast,
-        others: has_other(datagram, s.own),
+        others: false,
     };
-    let w = Work {
-        state: s,
-        sender: Sender {
-            known: false,
-            node: 0,
-            endpoint: 0,
-        },
-        used: 0,
-        omitted: 0,
-        dropped: 0,
-        fresh: false,
-        reached: Reached {
-            marks: [false; 32],
-            digest: [0; 16],
-        },
+    let mut t = s.table;
+    let mut p = s.peers;
+    let mut d = at_start(local);
+    let mut o = Others {
+        known: false,
+        found: false,
     };
-    let v = all_tlvs(w, mem, room, c, datagram);
-    let digest = last_digest(v, mem, c);
-    Outcome {
-        state: settle(v.state, clock, randoms, digest),
-        length: v.used,
-        omitted: v.omitted,
-        dropped: v.dropped,
+    let mut at = 0;
+    while at < datagram.len() {
+        let h = tlv_at(datagram, at);
+        at = h.next;
+        if is_idle(unicast, d.sender.known, h.kind) {
+            continue;
+        }
+        o = looked(o, datagram, s.own, h.kind);
+        let mut c = call;
+        c.others = o.found;
+        let a = h.start;
+        let b = a + h.len;
+        let x = on_tlv(d, t, p, mem, c, h.kind, &datagram[a..b]);
+        let act = x.act;
+        let f = x.progress.sender;
+        d = answered(x.progress, t, mem, room, c, act);
+        if is_altering(act) {
+            t = altered(t, mem, c, f, &datagram[a..b], act);
+        }
+        if is_meeting(f, unicast, act) {
+            p = met(p, c, f, act);
+        }
+    }
+    let u = refreshed(d, t, mem, call);
+    let found = u.reached;
+    let e = d.local;
+    endpoints[k] = e;
+    let old = s.digest;
+    let state = settled(s.own, t, p, endpoints, old, clock, randoms, found);
+    Answer {
+        number: 0,
+        state,
+        length: d.used,
+        omitted: d.omitted,
+        dropped: d.dropped,
     }
 }

@@ -1,40 +1,37 @@
 // Network State TLVs.
-use crate::peer::touch;
-use node::peering::count_equal;
+use crate::Act;
+use crate::Step;
+use crate::marks::refreshed;
+use crate::still;
 use reply::Context;
-use reply::Work;
-use reply::put::ask_network;
-use reply::request::refreshed;
+use reply::Progress;
+use table::Table;
 use wire::order::is_same;
-ghost use Rattle.model.specs.Handle.{onEqual, onNetwork};
-ghost use Rattle.reply.specs.View.{contextOf, Ready, Stepped};
+ghost use mathlib.Core.List.{List};
+ghost use Prim.Native.Nat.{ℕ};
+ghost use Rattle.model.specs.Handle.{onNetwork};
+ghost use Rattle.node.specs.declared.peers.Peers.{Peers};
+ghost use Rattle.reply.specs.View.{contextOf, Markable};
+ghost use Rattle.exchange.specs.Told.{Told};
 
-// An equal digest: the sender is in contact, and over multicast it counts.
-fn on_equal(w: Work, mem: &[u8], room: &[u8], c: Context) -> Work
-    requires { ⌜ Ready c w (now mem) (now room) ⌝ }
-    ensures { λ v. ⌜ Stepped c 0 (onEqual (contextOf c)) w (now (mem .entry)) (now (room .entry)) v (now (mem .entry)) (now (room .entry)) ⌝ }
+// A Network State TLV with this digest: ours, or another, and then a Node State about another node may come with it.
+pub fn on_network(d: Progress, t: Table, mem: &[u8], c: Context, digest: &[u8]) -> Step
+    requires { ⌜ Markable c t d (now mem) ⌝ }
+    ensures { λ x. ⌜ ((v : List ℕ) (p : Peers) → Told c 1 (onNetwork (contextOf c) (now (digest .entry))) v t p d (now (mem .entry)) x) ⌝ }
 {
-    let v = touch(w, mem, room, c);
-    if c.unicast {
-        return v;
-    }
-    let mut next = v;
-    next.state = count_equal(v.state, c.endpoint);
-    next
-}
-
-// A Network State TLV with this digest.
-pub fn on_network(w: Work, mem: &[u8], room: &mut [u8], c: Context, digest: &[u8]) -> Work
-    requires { ⌜ Ready c w (now mem) (now room) ⌝ }
-    ensures { λ v. ⌜ Stepped c 1 (onNetwork (contextOf c) (now (digest .entry))) w (now (mem .entry)) (now (room .entry)) v (now (mem .entry)) (now (room .exit)) ⌝ }
-{
-    let u = refreshed(w, mem, c);
+    let u = refreshed(d, t, mem, c);
     let ours = u.reached.digest;
     if is_same(&ours, digest) {
-        return on_equal(u, mem, room, c);
+        return Step {
+            progress: u,
+            act: Act::Equal,
+        };
     }
     if c.others {
-        return u;
+        return still(u);
     }
-    ask_network(u, mem, room, c)
+    Step {
+        progress: u,
+        act: Act::AskNetwork,
+    }
 }

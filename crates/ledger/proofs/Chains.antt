@@ -39,9 +39,9 @@ use Rattle.table.proofs.Tables.{view-ascending}
 use Rattle.node.specs.View.{stateOf}
 use Rattle.node.specs.declared.State.{State}
 use Rattle.exchange.specs.Datagram.{callOf}
-use Rattle.ledger.specs.declared.answers.Done.{Done}
-use Rattle.ledger.specs.declared.answers.Sent.{Sent}
-use Rattle.ledger.specs.declared.answers.Answer.{Answer}
+use Rattle.node.specs.declared.answers.Done.{Done}
+use Rattle.node.specs.declared.answers.Sent.{Sent}
+use Rattle.node.specs.declared.answers.Answer.{Answer}
 use Rattle.ledger.specs.declared.answers.Summed.{Summed}
 use Rattle.ledger.specs.declared.answers.Marked.{Marked}
 use Rattle.ledger.specs.Promises.{AsLeft, summedOf, marksOf, Receives, Ticks, Purges, Totals, SumsUp, Marks}

@@ -5,7 +5,7 @@ use mathlib.Core.List.{List, [], _∷_}
 use mathlib.Core.Option.{Option, none, some}
 use Prim.Native.Nat.{ℕ, _+_, _≤_, _<_}
 use native.Mathlib.Omega.{arith}
-use lib.ListN.{length}
+use lib.ListN.{length, length-map}
 use borrow.Author.Tests.{ltb-false}
 use Rattle.base.specs.Lists.{All, isSome, orElse}
 use Rattle.base.proofs.Tests.{no-way}
@@ -17,7 +17,7 @@ use Rattle.model.specs.Sequence.{circle}
 use Rattle.model.specs.Table.{Entry}
 use Rattle.model.specs.Refusals.{Row, firstOf, late, back, smallTable, noHousehold, paidAlready, full}
 use Rattle.model.specs.State.{State as ModelState, ownData}
-use Rattle.model.specs.Begin.{Done as ModelDone, begun, refusalBegin, begin}
+use Rattle.model.specs.Begin.{Done as ModelDone, freshEndpoints, started, begun, refusalBegin, begin}
 use Rattle.model.specs.Snapshot.{Snapshot, load, noSnapshot, resumed, refusalResume, resume}
 use Rattle.model.specs.Pay.{paid, refusalPay, pay, purged, refusalPurge, purge}
 use Rattle.model.specs.Invariant.{Valid}
@@ -55,6 +55,13 @@ pub wrote-as : {a : ModelState} {s : State} {m : List ℕ} {r : State} {m′ : L
 wrote-as {s = s} {m = m} {r = r} {m′ = m′} h e =
     subst (λ (es : List Entry). Wrote (s .table) m es (r .table) m′) (sym (state-table r m′) ∙ ap (λ (x : ModelState). x .table) (h .moved .is) ∙ e) (h .wrote)
 
+-- a state that starts has one endpoint for each random number, so these are four
+module _ (clock : ℕ) (rs : List ℕ) {a : ModelState} {m : List ℕ} {r : State} {m′ : List ℕ} (h : Moved a m r m′) where
+  randoms-four : a .endpoints ≡ freshEndpoints clock rs → length rs ≡ 4
+  unfolding stateOf
+  randoms-four e =
+      sym (length-map rs _) ∙ ap length (sym e) ∙ ap (λ (x : ModelState). length (x .endpoints)) (sym (h .is)) ∙ length-map (r .endpoints) _ ∙ h .rep .four
+
 -- ---- the calls
 
 module _ (s : State) (m : List ℕ) (l : AsLeft s m) (clock : ℕ) (rs : List ℕ) where
@@ -71,12 +78,12 @@ module _ (s : State) (m : List ℕ) (l : AsLeft s m) (clock : ℕ) (rs : List �
     unfolding begin
     begin-no z = changes-refused (as-refused n (refusalBegin clock (length m)) e (done (begun own clock rs)) told z) l
 
-    pub begin-yes : (r : State) → own < circle → length rs ≡ 4 → n ≡ 0 → tableBytes ≤ length m → Moved (begun own clock rs) m r m
+    pub begin-yes : (r : State) → own < circle → n ≡ 0 → tableBytes ≤ length m → Moved (begun own clock rs) m r m
         → Changes (begin own clock rs (length m) (stateOf s m)) s m (record { number = 0; state = r }) m
-    unfolding begin
-    begin-yes r small four z room h =
+    unfolding begin begun started
+    begin-yes r small z room h =
         changes-moved (as-accepted n (refusalBegin clock (length m)) e (done (begun own clock rs)) told z) h
-        (invariant-kept .begins own clock rs (length m) (stateOf s m) small four (l .valid room))
+        (invariant-kept .begins own clock rs (length m) (stateOf s m) small (randoms-four clock rs h refl) (l .valid room))
 
   -- purging
   module _ (n : ℕ) (e : n ≡ refusalPurge clock (length m) (stateOf s m)) where
@@ -170,11 +177,12 @@ module _ (s : State) (m : List ℕ) (l : AsLeft s m) (clock : ℕ) (rs : List �
           ap (λ (o : Option Snapshot). done (orElse o (stateOf s m) (resumed clock rs))) (sym q)
           ∙ as-accepted 0 (refusalResume clock bytes (length m)) k (done (orElse (load clock bytes) (stateOf s m) (resumed clock rs))) told refl
 
-      pub resume-yes : r .ok ≡ true → length rs ≡ 4 → tableBytes ≤ length m
-          → Resumes bytes clock rs s m (record { number = 0; state = r .state }) m′
-      resume-yes y four room =
-          let b : (x : Snapshot) × (load clock bytes ≡ some x) = loads-some (load clock bytes) (sym (h .judged) ∙ y) in (
-            changes-moved (resume-as (b .0) (b .1) (sym (read (sym (h .judged) ∙ y)) ∙ refusal-last)) (h .resumes (b .0) (b .1))
-                (invariant-kept .resumes clock bytes rs (length m) (stateOf s m) four (l .valid room)),
+      pub resume-yes : r .ok ≡ true → tableBytes ≤ length m → Resumes bytes clock rs s m (record { number = 0; state = r .state }) m′
+      unfolding resumed started
+      resume-yes y room =
+          let b : (x : Snapshot) × (load clock bytes ≡ some x) = loads-some (load clock bytes) (sym (h .judged) ∙ y) in
+          let g : Moved (resumed clock rs (b .0)) m (r .state) m′ = h .resumes (b .0) (b .1) in (
+            changes-moved (resume-as (b .0) (b .1) (sym (read (sym (h .judged) ∙ y)) ∙ refusal-last)) g
+                (invariant-kept .resumes clock bytes rs (length m) (stateOf s m) (randoms-four clock rs g refl) (l .valid room)),
             λ z. h .lays,
           )

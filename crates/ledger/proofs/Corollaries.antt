@@ -28,8 +28,8 @@ use Rattle.table.proofs.Laying.{wrote-again}
 use Rattle.node.specs.View.{stateOf}
 use Rattle.node.specs.declared.State.{State}
 use Rattle.exchange.specs.Datagram.{callOf}
-use Rattle.ledger.specs.declared.answers.Sent.{Sent}
-use Rattle.ledger.specs.declared.answers.Answer.{Answer}
+use Rattle.node.specs.declared.answers.Sent.{Sent}
+use Rattle.node.specs.declared.answers.Answer.{Answer}
 use Rattle.ledger.specs.declared.answers.Summed.{Summed}
 use Rattle.ledger.specs.Promises.{AsLeft, Receives, Ticks, Totals, SumsUp}
 use Rattle.ledger.specs.Calls.{PublicCall}

@@ -47,7 +47,7 @@ first l p =
     record {
       own = 0;
       last = 0;
-      table = record { count = 1; entries = record { id = 0; seq = 0; age = 0; since = 0; len = 0; slot = 0; hash = emptyHash } ∷ l };
+      table = record { count = 1; entries = record { id = 0; seq = 0; age = 0; len = 0; slot = 0; since = 0; hash = emptyHash } ∷ l };
       peers = record { count = 0; list = p };
       endpoints = e ∷ e ∷ e ∷ e ∷ [];
       digest = aloneDigest;

@@ -27,7 +27,7 @@ use Rattle.table.specs.View.{view}
 use Rattle.node.specs.View.{stateOf}
 use Rattle.node.specs.declared.State.{State}
 use Rattle.exchange.specs.Datagram.{callOf}
-use Rattle.ledger.specs.declared.answers.Done.{Done}
+use Rattle.node.specs.declared.answers.Done.{Done}
 use Rattle.ledger.specs.declared.answers.Saved.{Saved}
 use Rattle.ledger.specs.Promises.{AsLeft, Begins, Resumes, Saves}
 use Rattle.ledger.specs.Calls.{Look, PublicCall, Promised, stateAfter, memoryAfter, startsAnew, Trace, stateAtEnd, memoryAtEnd}

@@ -21,7 +21,7 @@ use Rattle.model.proofs.Snapshots.{snapshots}
 use Rattle.table.specs.View.{view}
 use Rattle.node.specs.View.{stateOf}
 use Rattle.node.specs.declared.State.{State}
-use Rattle.ledger.specs.declared.answers.Done.{Done}
+use Rattle.node.specs.declared.answers.Done.{Done}
 use Rattle.ledger.specs.declared.answers.Saved.{Saved}
 use Rattle.ledger.specs.Promises.{AsLeft, Resumes, Saves}
 use Rattle.ledger.specs.Calls.{Look, PublicCall}

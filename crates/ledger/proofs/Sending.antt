@@ -21,9 +21,9 @@ use Rattle.table.specs.View.{Wrote}
 use Rattle.node.specs.declared.State.{State}
 use Rattle.node.proofs.Parts.{state-table}
 use Rattle.node.specs.View.{stateOf}
-use Rattle.upkeep.specs.declared.tick.Ticked.{Ticked}
 use Rattle.upkeep.specs.Ticked.{TickedFrom}
-use Rattle.exchange.specs.declared.datagram.Outcome.{Outcome}
+use Rattle.node.specs.declared.answers.Sent.{Sent}
+use Rattle.node.specs.declared.answers.Answer.{Answer}
 use Rattle.exchange.specs.Datagram.{callOf, tablesOf, Handled}
 use Rattle.ledger.specs.Promises.{AsLeft, Sends, Answers}
 use Rattle.ledger.proofs.Left.{rep-left, none-first, endpoint-accepted}
@@ -49,9 +49,9 @@ module _ (s : State) (m q : List ℕ) (l : AsLeft s m) (clock endpoint : ℕ) (r
         refused = λ y. (refl, (refl, refl));
       }
 
-  pub tick-yes : (o : Ticked) (m′ q′ : List ℕ) → refusalTick clock endpoint (length m) (length q) (stateOf s m) ≡ 0 → tableBytes ≤ length m → mostBytes ≤ length q
+  pub tick-yes : (o : Sent) (m′ q′ : List ℕ) → refusalTick clock endpoint (length m) (length q) (stateOf s m) ≡ 0 → tableBytes ≤ length m → mostBytes ≤ length q
       → TickedFrom s m q clock endpoint rs o m′ q′
-      → Sends (tick clock endpoint rs (length m) (length q) (stateOf s m)) s m q (record { number = 0; state = o .state; length = o .length }) m′ q′
+      → Sends (tick clock endpoint rs (length m) (length q) (stateOf s m)) s m q o m′ q′
   unfolding tick
   tick-yes o m′ q′ e enough wide h =
       record {
@@ -63,10 +63,10 @@ module _ (s : State) (m q : List ℕ) (l : AsLeft s m) (clock endpoint : ℕ) (r
         within = omega (arith, h .used, h .room);
         room = h .room;
         rest = h .rest;
-        refused = λ z. absurd (z refl);
+        refused = λ z. absurd (z (h .accepted));
       }
     where
-      is : record { number = 0; state = stateOf (o .state) m′; bytes = take (o .length) q′ } ≡ tick clock endpoint rs (length m) (length q) (stateOf s m)
+      is : record { number = o .number; state = stateOf (o .state) m′; bytes = take (o .length) q′ } ≡ tick clock endpoint rs (length m) (length q) (stateOf s m)
       is = h .is ∙ as-accepted 0 (refusalTick clock endpoint (length m) (length q) (stateOf s m)) (sym e) (ticked clock endpoint rs (stateOf s m)) told refl
 
 module _ (s : State) (m q : List ℕ) (l : AsLeft s m) (datagram : List ℕ) (clock endpoint : ℕ) (unicast : Bool) (rs : List ℕ) where
@@ -88,9 +88,9 @@ module _ (s : State) (m q : List ℕ) (l : AsLeft s m) (datagram : List ℕ) (cl
         refused = λ y. (refl, (refl, refl));
       }
 
-  pub receive-yes : (o : Outcome) (m′ q′ : List ℕ) → refusalReceive call (stateOf s m) ≡ 0 → tableBytes ≤ length m → mostBytes ≤ length q → Bytes datagram
+  pub receive-yes : (o : Answer) (m′ q′ : List ℕ) → refusalReceive call (stateOf s m) ≡ 0 → tableBytes ≤ length m → mostBytes ≤ length q → Bytes datagram
       → Handled s m q datagram clock endpoint unicast rs o m′ q′
-      → Answers (receive call (stateOf s m)) (tablesOf (stateOf s m) call) s m q (record { number = 0; state = o .state; length = o .length; omitted = o .omitted; dropped = o .dropped }) m′ q′
+      → Answers (receive call (stateOf s m)) (tablesOf (stateOf s m) call) s m q o m′ q′
   unfolding handled
   receive-yes o m′ q′ e enough wide bytes h =
       record {
@@ -102,10 +102,10 @@ module _ (s : State) (m q : List ℕ) (l : AsLeft s m) (datagram : List ℕ) (cl
         within = omega (arith, h .used, h .room);
         room = h .room;
         rest = h .rest;
-        refused = λ z. absurd (z refl);
+        refused = λ z. absurd (z (h .accepted));
       }
     where
-      is : record { number = 0; state = stateOf (o .state) m′; bytes = take (o .length) q′; omitted = o .omitted; dropped = o .dropped } ≡ receive call (stateOf s m)
+      is : record { number = o .number; state = stateOf (o .state) m′; bytes = take (o .length) q′; omitted = o .omitted; dropped = o .dropped } ≡ receive call (stateOf s m)
       is = h .is ∙ sym (receive-accepted call (stateOf s m) e)
 
   -- what it says that none of the refusals applies

@@ -67,16 +67,17 @@ module _ (n : ℕ) (s : State) (m : List ℕ) where
     shows-missing h =
         shows-nothing (λ z. let e : 10 ≡ refusalShow n (length m) (stateOf s m) = show-missing n s m l room i h in omega (arith, e, z))
 
-    module _ (h : Stands (s .table) n i) (e : Meta) (r : Read (s .table) i e) where
+    module _ (h : Stands (s .table) n i) (e : Meta) (r : Read (s .table) i e) (start : ℕ) (q : start ≡ e .slot * dataLimit) where
       shown-is : shown n (length m) (stateOf s m) ≡ dataOf m (metaAt (s .table) i)
       unfolding shown
       shown-is = rw (eq-eqb (refusalShow n (length m) (stateOf s m)) 0 (sym (show-found n s m l room i h)), shown-entry n s m l room i h)
 
-      pub shows-found : Shows n s m (record { start = e .slot * dataLimit; length = e .len })
+      pub shows-found : Shows n s m (record { start = start; length = e .len })
       shows-found =
-          record {
+          rw q
+          (record {
             is = ap (dataOf m) (r .same) ∙ sym shown-is;
             within = omega (arith, r .low, r .short);
             slot = λ z j g. ap (λ (x : Meta). x .slot * dataLimit) (r .same ∙ one-place (s .table) (l .arranged) n i j h g);
             refused = λ z. absurd (z (sym (show-found n s m l room i h)));
-          }
+          })

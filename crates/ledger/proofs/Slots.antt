@@ -21,7 +21,7 @@ use Rattle.table.specs.declared.Entry.{Entry as Meta}
 use Rattle.table.specs.View.{noMeta, metaId, live, FitMeta, Arranged, metaOf, SlotsStay, Lays}
 use Rattle.table.proofs.Laying.{stays-self, wrote-none, lays-free, lays-behind}
 use Rattle.node.specs.declared.State.{State}
-use Rattle.ledger.specs.declared.answers.Done.{Done}
+use Rattle.node.specs.declared.answers.Done.{Done}
 use Rattle.ledger.specs.Promises.{Resumes}
 use Rattle.ledger.specs.Calls.{PublicCall, Promised, stateAfter, memoryAfter, numberOf, startsAnew, writtenBy}
 use Rattle.ledger.specs.Demands.{MemoryKept}

@@ -12,7 +12,7 @@ use Rattle.model.specs.Figures.{tableBytes, lastReading}
 use Rattle.model.specs.Theorems.{ownPayments}
 use Rattle.node.specs.View.{stateOf}
 use Rattle.node.specs.declared.State.{State}
-use Rattle.ledger.specs.declared.answers.Done.{Done}
+use Rattle.node.specs.declared.answers.Done.{Done}
 use Rattle.ledger.specs.declared.answers.Saved.{Saved}
 use Rattle.ledger.specs.Promises.{AsLeft, Begins, Resumes, Saves}
 use Rattle.ledger.specs.Calls.{PublicCall, startsAnew, Trace, stateAtEnd, memoryAtEnd}

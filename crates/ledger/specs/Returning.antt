@@ -10,7 +10,7 @@ use Rattle.model.specs.Theorems.{capped}
 use Rattle.table.specs.View.{view}
 use Rattle.node.specs.View.{stateOf}
 use Rattle.node.specs.declared.State.{State}
-use Rattle.ledger.specs.declared.answers.Done.{Done}
+use Rattle.node.specs.declared.answers.Done.{Done}
 use Rattle.ledger.specs.declared.answers.Saved.{Saved}
 use Rattle.ledger.specs.Promises.{AsLeft, Resumes, Saves}
 

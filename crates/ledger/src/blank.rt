@@ -1,4 +1,8 @@
 // The state to start from.
+use model::figures::LEAST_INTERVAL;
+use model::figures::MOST_ENDPOINTS;
+use model::figures::MOST_NODES;
+use model::figures::MOST_PEERS;
 use node::Endpoint;
 use node::State;
 use node::peers::Peer;
@@ -48,17 +52,21 @@ const ALONE: [u8; 16] = [
     251,
 ];
 
+// The send point that the random number 0 gives.
+const FIRST_POINT: u64 = LEAST_INTERVAL / 2;
+
 // Node 0, begun at reading 0 with random numbers 0, with whatever table memory.
-pub fn blank() -> State
+#[no_mangle]
+pub extern "C" fn pingvratha_blank() -> State
     ensures { λ r. ⌜ Blank r ⌝ }
 {
     let ours = Entry {
         id: 0,
         seq: 0,
         age: 0,
-        since: 0,
         len: 0,
         slot: 0,
+        since: 0,
         hash: EMPTY,
     };
     let nobody = Peer {
@@ -70,8 +78,8 @@ pub fn blank() -> State
     let first = Endpoint {
         trickle: Trickle {
             start: 0,
-            point: 100,
-            interval: 200,
+            point: FIRST_POINT,
+            interval: LEAST_INTERVAL,
             count: 0,
             spent: false,
         },
@@ -82,13 +90,13 @@ pub fn blank() -> State
         last: 0,
         table: Table {
             count: 1,
-            entries: [ours; 32],
+            entries: [ours; MOST_NODES],
         },
         peers: Peers {
             count: 0,
-            list: [nobody; 16],
+            list: [nobody; MOST_PEERS],
         },
-        endpoints: [first; 4],
+        endpoints: [first; MOST_ENDPOINTS],
         digest: ALONE,
     }
 }

@@ -1,10 +1,20 @@
 // The numbers that a call may answer, the first of its order that applies (document 01, Numbers a call may answer).
+use model::figures::LAST_READING;
+use model::figures::LEAST_HOUSEHOLD;
+use model::figures::MOST_BYTES;
+use model::figures::MOST_ENDPOINTS;
+use model::figures::MOST_HOUSEHOLD;
+use model::figures::SNAPSHOT_BYTES;
+use model::figures::TABLE_BYTES;
 use wire::row::is_row;
 ghost use mathlib.Core.Path.{_≡_};
 ghost use mathlib.Core.List.{[], _∷_};
 ghost use Rattle.model.specs.Figures.{mostBytes, snapshotBytes};
 ghost use Rattle.model.specs.State.{State as ModelState};
 ghost use Rattle.model.specs.Refusals.{firstOf, late, back, noSuchEndpoint, smallTable, smallRoom, long, noRow, noHousehold};
+
+// Endpoints are numbered from 1 on.
+const LAST_ENDPOINT: u32 = MOST_ENDPOINTS as u32;
 
 // 1 and 4: what begins has no reading before it.
 pub fn of_start(clock: u64, table: usize) -> u32
@@ -17,13 +27,13 @@ pub fn of_start(clock: u64, table: usize) -> u32
 pub fn of_table(last: u64, clock: u64, table: usize) -> u32
     ensures { λ r. ⌜ ((s : ModelState) → s .last ≡ last → r ≡ firstOf (late clock ∷ back clock s ∷ smallTable table ∷ [])) ⌝ }
 {
-    if 4611686018427387903 < clock {
+    if LAST_READING < clock {
         return 1;
     }
     if clock < last {
         return 2;
     }
-    if table < 32768 {
+    if table < TABLE_BYTES {
         return 4;
     }
     0
@@ -37,10 +47,10 @@ pub fn of_household(last: u64, clock: u64, table: usize, household: u32) -> u32
     if early != 0 {
         return early;
     }
-    if household < 1 {
+    if household < LEAST_HOUSEHOLD {
         return 7;
     }
-    if 9999 < household {
+    if MOST_HOUSEHOLD < household {
         return 7;
     }
     0
@@ -54,7 +64,7 @@ pub fn of_save(last: u64, clock: u64, table: usize, room: usize) -> u32
     if early != 0 {
         return early;
     }
-    if room < 33319 {
+    if room < SNAPSHOT_BYTES {
         return 4;
     }
     0
@@ -64,7 +74,7 @@ pub fn of_save(last: u64, clock: u64, table: usize, room: usize) -> u32
 pub fn of_tick(last: u64, clock: u64, endpoint: u32, table: usize, room: usize) -> u32
     ensures { λ r. ⌜ ((s : ModelState) → s .last ≡ last → r ≡ firstOf (late clock ∷ back clock s ∷ noSuchEndpoint endpoint ∷ smallRoom table room mostBytes ∷ [])) ⌝ }
 {
-    if 4611686018427387903 < clock {
+    if LAST_READING < clock {
         return 1;
     }
     if clock < last {
@@ -73,13 +83,13 @@ pub fn of_tick(last: u64, clock: u64, endpoint: u32, table: usize, room: usize) 
     if endpoint < 1 {
         return 3;
     }
-    if 4 < endpoint {
+    if LAST_ENDPOINT < endpoint {
         return 3;
     }
-    if table < 32768 {
+    if table < TABLE_BYTES {
         return 4;
     }
-    if room < 4096 {
+    if room < MOST_BYTES {
         return 4;
     }
     0
@@ -100,7 +110,7 @@ pub fn of_datagram(
     if early != 0 {
         return early;
     }
-    if 4096 < datagram.len() {
+    if MOST_BYTES < datagram.len() {
         return 5;
     }
     if !is_row(datagram) {

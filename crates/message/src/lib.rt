@@ -2,6 +2,7 @@
 use base::big_endian::put_u16;
 use base::big_endian::put_u32;
 use base::memory::store;
+use model::figures::PEER_BYTES;
 ghost use mathlib.Core.Path.{_≡_};
 ghost use mathlib.Core.List.{_++_};
 ghost use Prim.Native.Nat.{_+_, _≤_};
@@ -47,10 +48,10 @@ pub fn request_node_tlv(node: u32) -> [u8; 8]
 }
 
 // The Peer TLV of a peer.
-pub fn peer_tlv(node: u32, theirs: u32, ours: u32) -> [u8; 16]
+pub fn peer_tlv(node: u32, theirs: u32, ours: u32) -> [u8; PEER_BYTES]
     ensures { λ r. ⌜ r ≡ peerTlv (record { node = node; theirs = theirs; ours = ours; contact = 0 }) ⌝ }
 {
-    let mut d = [0u8; 16];
+    let mut d = [0u8; PEER_BYTES];
     put_u16(&mut d, 0, 8);
     put_u16(&mut d, 2, 12);
     put_u32(&mut d, 4, node);

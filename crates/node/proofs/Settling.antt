@@ -13,7 +13,6 @@ use Rattle.node.specs.View.{endpointOf, endpointsOf, stateOf, Rep, Moved
 use Rattle.node.specs.declared.State.{State}
 use Rattle.node.specs.declared.Endpoint.{Endpoint}
 use Rattle.base.proofs.Places.{four-of}
-use Rattle.node.proofs.Parts.{putEndpoints}
 
 -- ---- reset
 
@@ -33,31 +32,16 @@ reset-four clock rs es d0 d1 d2 d3 a b c d hr he p q r s =
 
 -- ---- settled
 
--- the state with the reading and the digest at the end of a call
-abbrev pub closed : ℕ → List ℕ → State → State
-closed clock d s = record { own = s .own; last = clock; table = s .table; peers = s .peers; endpoints = s .endpoints; digest = d }
-
-module _ (clock : ℕ) (randoms d : List ℕ) (s r : State) (n : length d ≡ 16) where
-  settles : (es : List Endpoint) → r ≡ putEndpoints es s → (length (s .endpoints) ≡ 4 → length es ≡ 4)
-      → endpointsOf es ≡ cond (same (s .digest) d) (endpointsOf (s .endpoints)) (resetAll clock randoms (endpointsOf (s .endpoints)))
-      → Settled clock randoms d s (closed clock d r)
-  unfolding stateOf settle
-  settles es q f e =
-      rw q
-      (record {
-        rep = λ m k. record { table = k .table; peers = k .peers; four = f (k .four); digest = n };
-        is = λ m w. rw (← w, e);
-        table = refl;
-      })
-
-  -- the digest is as it was
-  pub settles-same : same (s .digest) d ≡ true → r ≡ s → Settled clock randoms d s (closed clock d r)
-  settles-same h q = settles (s .endpoints) q (λ k. k) (rw h)
-
-  -- it is another
-  pub settles-new : (es : List Endpoint) → same (s .digest) d ≡ false → length es ≡ 4
-      → endpointsOf es ≡ resetAll clock randoms (endpointsOf (s .endpoints)) → r ≡ putEndpoints es s → Settled clock randoms d s (closed clock d r)
-  settles-new es h l e q = settles es q (λ k. l) (rw h e)
+pub settles : (clock : ℕ) (randoms d : List ℕ) (s : State) (es : List Endpoint) → length d ≡ 16 → length es ≡ 4
+    → endpointsOf es ≡ cond (same (s .digest) d) (endpointsOf (s .endpoints)) (resetAll clock randoms (endpointsOf (s .endpoints)))
+    → Settled clock randoms d s (record { own = s .own; last = clock; table = s .table; peers = s .peers; endpoints = es; digest = d })
+unfolding stateOf settle
+settles clock randoms d s es n f e =
+    record {
+      rep = λ m k. record { table = k .table; peers = k .peers; four = f; digest = n };
+      is = λ m w. rw (← w, e);
+      table = refl;
+    }
 
 -- a settled state as a step
 pub settled-moved : (clock : ℕ) (randoms d : List ℕ) (s r : State) (m : List ℕ) → Settled clock randoms d s r → Rep s m

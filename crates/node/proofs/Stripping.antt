@@ -209,24 +209,25 @@ stayed-all marks p i r j e q =
 
 -- ---- our data published without them, and the list
 
-module _ (s : State) (m : List ℕ) (k : Rep s m) (i : ℕ) (h : Stands (s .table) (s .own) i) (g : good dataLimit (ownData (stateOf s m)) ≡ true) (e : Meta) (o : Read (s .table) i e) (marks : List Bool) where
+module _ (s : State) (m : List ℕ) (k : Rep s m) (i : ℕ) (h : Stands (s .table) (s .own) i) (g : good dataLimit (ownData (stateOf s m)) ≡ true) (e : Meta) (o : Read (s .table) i e)
+    (start : ℕ) (z : start ≡ e .slot * dataLimit) (marks : List Bool) where
   abbrev going : List ModelPeer
   going = keepBy marks (peersOf (s .peers))
 
-  own-part : part m (e .slot * dataLimit) (e .len) ≡ ownData (stateOf s m)
-  own-part = ap (dataOf m) (o .same) ∙ sym (own-data s m i k h)
+  own-part : part m (start) (e .len) ≡ ownData (stateOf s m)
+  own-part = ap (λ (x : ℕ). part m x (e .len)) z ∙ ap (dataOf m) (o .same) ∙ sym (own-data s m i k h)
 
-  pub strip-asks : (e .slot * dataLimit + e .len ≤ length m) × (isRow (part m (e .slot * dataLimit) (e .len)) ≡ true)
+  pub strip-asks : (start + e .len ≤ length m) × (isRow (part m (start) (e .len)) ≡ true)
   strip-asks = (omega (arith, o .low, o .short, k .table .room), rw own-part (good-row dataLimit (ownData (stateOf s m)) g))
 
-  left-fits : length (withoutPeers going (part m (e .slot * dataLimit) (e .len))) ≤ dataLimit
+  left-fits : length (withoutPeers going (part m (start) (e .len))) ≤ dataLimit
   unfolding withoutPeers
   left-fits =
-      good-fits dataLimit (withoutPeers going (part m (e .slot * dataLimit) (e .len)))
-      (keep-good (λ t. not (names going t)) dataLimit (part m (e .slot * dataLimit) (e .len)) (rw own-part g))
+      good-fits dataLimit (withoutPeers going (part m (start) (e .len)))
+      (keep-good (λ t. not (names going t)) dataLimit (part m (start) (e .len)) (rw own-part g))
 
   module _ (m′ : List ℕ) (n : ℕ)
-      (w : (m′ ≡ written m (e .slot * dataLimit) (withoutPeers going (part m (e .slot * dataLimit) (e .len)))) × (n ≡ length (withoutPeers going (part m (e .slot * dataLimit) (e .len))))) where
+      (w : (m′ ≡ written m (start) (withoutPeers going (part m (start) (e .len)))) × (n ≡ length (withoutPeers going (part m (start) (e .len))))) where
     pub slot-asks : Arranged (s .table) × (Stands (s .table) (s .own) i × ((n ≤ dataLimit) × (tableBytes ≤ length m′)))
     slot-asks = (
       k .table .arranged,
@@ -234,7 +235,7 @@ module _ (s : State) (m : List ℕ) (k : Rep s m) (i : ℕ) (h : Stands (s .tabl
         h,
         (
           omega (arith, left-fits, w .1),
-          rw (w .0) (rw (written-length m (withoutPeers going (part m (e .slot * dataLimit) (e .len))) (e .slot * dataLimit) (omega (arith, o .low, left-fits, k .table .room))) (k .table .room)),
+          rw (w .0) (rw (written-length m (withoutPeers going (part m (start) (e .len))) (start) (omega (arith, o .low, left-fits, k .table .room))) (k .table .room)),
         ),
       ),
     )
@@ -246,9 +247,9 @@ module _ (s : State) (m : List ℕ) (k : Rep s m) (i : ℕ) (h : Stands (s .tabl
         s m (putPeers p (putTable t s)) m′
     peers-dropped clock seq t p es f l =
         let S : ModelState = stateOf s m in
-        let d : List ℕ = withoutPeers going (part m (e .slot * dataLimit) (e .len)) in
+        let d : List ℕ = withoutPeers going (part m (start) (e .len)) in
         let stored : Stored (entryOf (s .own) seq d 0 clock) (s .table) m i t m′ =
-        f m d (k .table) (sym (w .1)) (w .0 ∙ ap (λ (x : Meta). written m (x .slot * dataLimit) d) (o .same)) in
+        f m d (k .table) (sym (w .1)) (w .0 ∙ ap (λ (x : ℕ). written m x d) z ∙ ap (λ (x : Meta). written m (x .slot * dataLimit) d) (o .same)) in
         let q : seq ≡ advance (ownSeq S) 1 = es ∙ ap (λ (x : ℕ). advance x 1) (ap (λ (x : Meta). x .seq) (o .same) ∙ sym (own-seq s m i k h)) in
         let same-data : d ≡ withoutPeers (keepBy marks (S .peers)) (ownData S) =
         ap (withoutPeers going) own-part ∙ ap (λ (x : List ModelPeer). withoutPeers (keepBy marks x) (ownData S)) (sym (state-peers s m)) in

@@ -14,7 +14,8 @@ pub fn endpoint_at(s: State, i: u32) -> Endpoint
     ensures { λ r. ⌜ ((m : List ℕ) → endpointOf r ≡ endpointAt i (stateOf s m)) ⌝ }
 {
     let k = (i - 1) as usize;
-    s.endpoints[k]
+    let es = s.endpoints;
+    es[k]
 }
 
 // The state with e for endpoint i.

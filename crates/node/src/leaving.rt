@@ -2,13 +2,14 @@
 use crate::State;
 use crate::peers::Peer;
 use crate::peers::Peers;
-use crate::publish::advanced;
 use crate::publish::own_place;
 use base::memory::move_down;
 use message::peer_tlv;
-use table::SLOT;
+use model::figures::MOST_PEERS;
+use model::sequence::advanced;
 use table::meta_at;
 use table::publish_slot;
+use table::start_of;
 use wire::order::is_same;
 use wire::row::tlv_at;
 ghost use mathlib.Core.Path.{_≡_};
@@ -35,7 +36,7 @@ fn is_link(tlv: &[u8], p: Peer) -> bool
 }
 
 // The bytes are the Peer TLV of a marked peer.
-fn is_marked_link(tlv: &[u8], p: Peers, marks: [bool; 16]) -> bool
+fn is_marked_link(tlv: &[u8], p: Peers, marks: [bool; MOST_PEERS]) -> bool
     requires { ⌜ PeersRep p ⌝ }
     ensures { λ r. ⌜ r ≡ any (λ q. same (peerTlv q) (now (tlv .entry))) (keepBy marks (peersOf p)) ⌝ }
 {
@@ -53,7 +54,7 @@ fn is_marked_link(tlv: &[u8], p: Peers, marks: [bool; 16]) -> bool
 }
 
 // Takes the marked peers' Peer TLVs out of the `len` bytes of TLVs at `start`, in one pass; the length of what is left.
-fn strip(mem: &mut [u8], start: usize, len: usize, p: Peers, marks: [bool; 16]) -> usize
+fn strip(mem: &mut [u8], start: usize, len: usize, p: Peers, marks: [bool; MOST_PEERS]) -> usize
     requires { ⌜ PeersRep p × ((start + len ≤ length (now mem)) × (isRow (part (now mem) start len) ≡ true)) ⌝ }
     ensures { λ r. ⌜ (now (mem .exit) ≡ written (now (mem .entry)) start (withoutPeers (keepBy marks (peersOf p)) (part (now (mem .entry)) start len))) × (r ≡ length (withoutPeers (keepBy marks (peersOf p)) (part (now (mem .entry)) start len))) ⌝ }
 {
@@ -78,7 +79,7 @@ fn strip(mem: &mut [u8], start: usize, len: usize, p: Peers, marks: [bool; 16]) 
 }
 
 // The peers that are not marked, in their order.
-fn staying(p: Peers, marks: [bool; 16]) -> Peers
+fn staying(p: Peers, marks: [bool; MOST_PEERS]) -> Peers
     requires { ⌜ PeersRep p ⌝ }
     ensures { λ r. ⌜ PeersRep r × (peersOf r ≡ keepBy (map not marks) (peersOf p)) ⌝ }
 {
@@ -101,13 +102,13 @@ fn staying(p: Peers, marks: [bool; 16]) -> Peers
 }
 
 // The marked peers go: our data are published without their Peer TLVs.
-pub fn drop_peers(s: State, mem: &mut [u8], clock: u64, marks: [bool; 16]) -> State
+pub fn drop_peers(s: State, mem: &mut [u8], clock: u64, marks: [bool; MOST_PEERS]) -> State
     requires { ⌜ Rep s (now mem) × (Held s (now mem) × (good dataLimit (ownData (stateOf s (now mem))) ≡ true)) ⌝ }
     ensures { λ r. ⌜ Published (withPeers (keepBy (map not marks) (stateOf s (now (mem .entry)) .peers)) (publish clock (withoutPeers (keepBy marks (stateOf s (now (mem .entry)) .peers)) (ownData (stateOf s (now (mem .entry))))) (stateOf s (now (mem .entry))))) s (now (mem .entry)) r (now (mem .exit)) ⌝ }
 {
-    let i = own_place(s, mem);
+    let i = own_place(s.table, mem, s.own);
     let e = meta_at(s.table, i);
-    let len = strip(mem, e.slot * SLOT, e.len, s.peers, marks);
+    let len = strip(mem, start_of(e), e.len as usize, s.peers, marks);
     let mut r = s;
     r.table = publish_slot(s.table, mem, i, s.own, advanced(e.seq, 1), clock, len);
     r.peers = staying(s.peers, marks);

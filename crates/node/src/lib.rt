@@ -1,11 +1,12 @@
 // The node's state: table, peers and endpoints by value; publishing; what stands last in a call that changes state.
+pub mod answers;
 pub mod endpoints;
 pub mod leaving;
-pub mod peering;
 pub mod peers;
 pub mod publish;
 pub mod settle;
 
+use model::figures::MOST_ENDPOINTS;
 use peers::Peers;
 use table::Table;
 use trickle::Trickle;
@@ -24,6 +25,6 @@ pub struct State {
     pub last: u64,
     pub table: Table,
     pub peers: Peers,
-    pub endpoints: [Endpoint; 4],
+    pub endpoints: [Endpoint; MOST_ENDPOINTS],
     pub digest: [u8; 16],
 }

@@ -1,4 +1,5 @@
 // The peers: known, contacted, added.
+use model::figures::MOST_PEERS;
 ghost use mathlib.Core.Path.{_≡_};
 ghost use mathlib.Core.List.{[], _∷_, _++_, map};
 ghost use Prim.Native.Nat.{_<_};
@@ -20,7 +21,7 @@ pub struct Peer {
 #[repr(C)]
 pub struct Peers {
     pub count: usize,
-    pub list: [Peer; 16],
+    pub list: [Peer; MOST_PEERS],
 }
 
 // The peer has this node, endpoint of its own and endpoint of ours.

@@ -1,37 +1,31 @@
 // Publishing: our own node's entry with another number, and with a TLV put in or taken out.
 use crate::State;
 use table::Found;
+use table::Table;
 use table::data_of;
 use table::find;
 use table::insert_tlv;
 use table::remove_tlv;
-use table::renumber;
 use wire::order::place_of;
 ghost use mathlib.Core.Path.{_≡_};
 ghost use mathlib.Core.Bool.{true};
 ghost use Prim.Native.Nat.{_+_, _≤_};
 ghost use lib.ListN.{length};
+ghost use Rattle.base.specs.Lists.{isSome};
 ghost use Rattle.base.specs.Memory.{cut};
 ghost use Rattle.wire.specs.Row.{isRow};
 ghost use Rattle.model.specs.Figures.{dataLimit};
-ghost use Rattle.model.specs.Sequence.{advance};
 ghost use Rattle.model.specs.State.{ownSeq, ownData, publishAs, withTlv};
-ghost use Rattle.table.specs.View.{Stands};
+ghost use Rattle.model.specs.Table.{look};
+ghost use Rattle.table.specs.View.{view, Kept, Stands};
 ghost use Rattle.node.specs.View.{stateOf, Rep, Held, Published};
 
-// n + k modulo 2^32.
-pub fn advanced(n: u32, k: u32) -> u32
-    ensures { λ r. ⌜ r ≡ advance n k ⌝ }
-{
-    ((n as u64 + k as u64) % 4294967296) as u32
-}
-
 // The place of our own node in the table.
-pub fn own_place(s: State, mem: &[u8]) -> usize
-    requires { ⌜ Rep s (now mem) × Held s (now mem) ⌝ }
-    ensures { λ r. ⌜ Stands (s .table) (s .own) r ⌝ }
+pub fn own_place(t: Table, mem: &[u8], own: u32) -> usize
+    requires { ⌜ Kept t (now mem) × (isSome (look own (view t (now mem))) ≡ true) ⌝ }
+    ensures { λ r. ⌜ Stands t own r ⌝ }
 {
-    let found = find(s.table, s.own);
+    let found = find(t, own);
     match found {
         Found::At(i) => i,
         Found::Missing(i) => i,
@@ -43,7 +37,7 @@ pub fn own_seq(s: State, mem: &[u8]) -> u32
     requires { ⌜ Rep s (now mem) × Held s (now mem) ⌝ }
     ensures { λ r. ⌜ r ≡ ownSeq (stateOf s (now (mem .entry))) ⌝ }
 {
-    let i = own_place(s, mem);
+    let i = own_place(s.table, mem, s.own);
     let e = table::meta_at(s.table, i);
     e.seq
 }
@@ -53,19 +47,8 @@ pub fn own_data<'a>(s: State, mem: &'a [u8]) -> &'a [u8]
     requires { ⌜ Rep s (now mem) × Held s (now mem) ⌝ }
     ensures { λ r. ⌜ now r ≡ ownData (stateOf s (now (mem .entry))) ⌝ }
 {
-    let i = own_place(s, mem);
+    let i = own_place(s.table, mem, s.own);
     data_of(s.table, mem, i)
-}
-
-// The number `seq` for our own node, its data as they are.
-pub fn publish_as(s: State, mem: &[u8], clock: u64, seq: u32) -> State
-    requires { ⌜ Rep s (now mem) × Held s (now mem) ⌝ }
-    ensures { λ r. ⌜ Published (publishAs clock seq (ownData (stateOf s (now (mem .entry)))) (stateOf s (now (mem .entry)))) s (now (mem .entry)) r (now (mem .entry)) ⌝ }
-{
-    let i = own_place(s, mem);
-    let mut r = s;
-    r.table = renumber(s.table, i, s.own, seq, 0, clock);
-    r
 }
 
 // The number `seq` for our own node, and a TLV put in its place in its data.
@@ -73,7 +56,7 @@ pub fn publish_with(s: State, mem: &mut [u8], clock: u64, seq: u32, tlv: &[u8]) 
     requires { ⌜ Rep s (now mem) × (Held s (now mem) × ((isRow (ownData (stateOf s (now mem))) ≡ true) × (length (ownData (stateOf s (now mem))) + length (now tlv) ≤ dataLimit))) ⌝ }
     ensures { λ r. ⌜ Published (publishAs clock seq (withTlv (now (tlv .entry)) (ownData (stateOf s (now (mem .entry))))) (stateOf s (now (mem .entry)))) s (now (mem .entry)) r (now (mem .exit)) ⌝ }
 {
-    let i = own_place(s, mem);
+    let i = own_place(s.table, mem, s.own);
     let p = place_of(data_of(s.table, mem, i), tlv);
     let mut r = s;
     r.table = insert_tlv(s.table, mem, i, s.own, seq, clock, p, tlv);
@@ -85,7 +68,7 @@ pub fn publish_cut(s: State, mem: &mut [u8], clock: u64, seq: u32, p: usize, n: 
     requires { ⌜ Rep s (now mem) × (Held s (now mem) × (p + n ≤ length (ownData (stateOf s (now mem))))) ⌝ }
     ensures { λ r. ⌜ Published (publishAs clock seq (cut (ownData (stateOf s (now (mem .entry)))) p n) (stateOf s (now (mem .entry)))) s (now (mem .entry)) r (now (mem .exit)) ⌝ }
 {
-    let i = own_place(s, mem);
+    let i = own_place(s.table, mem, s.own);
     let mut r = s;
     r.table = remove_tlv(s.table, mem, i, s.own, seq, clock, p, n);
     r

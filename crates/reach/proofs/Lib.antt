@@ -5,3 +5,4 @@ pub mod Nexts
 pub mod Waves
 pub mod Reaching
 pub mod Digests
+pub mod Listing

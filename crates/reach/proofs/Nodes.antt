@@ -53,8 +53,8 @@ joins-says r n = refl
 
 module _ (clock : ℕ) (m : List ℕ) (e : Meta) (g : Legible clock m e) where
   -- what `age_at` asks of it
-  pub meta-age : (e .since ≤ clock) × ((e .age ≤ mostAge) × (clock ≤ lastReading))
-  meta-age = (g .entry .since, (g .entry .age, g .reading))
+  pub meta-age : (e .since ≤ clock) × (clock ≤ lastReading)
+  meta-age = (g .entry .since, g .reading)
 
   -- what `front_of` asks of it: its data is good
   pub front-asks : FitMeta e × ((tableBytes ≤ length m) × (good dataLimit (dataOf m e) ≡ true))
@@ -87,9 +87,9 @@ module _ (clock : ℕ) (t : Table) (m : List ℕ) (g : Readable clock t m) where
         let f : Read t i (metaAt t i) = meta-read t i (g .kept .arranged) p in
         record { fit = (f .low, f .short); room = g .kept .room; entry = view-each t (g .kept .arranged) (EntryFits clock) m i (g .entries) p; reading = g .reading }
 
-    -- what `age_at` asks of it, once it was read
+    -- its numbers are in range, also once it was read
     pub age-fits : (e : Meta) → Read t i e → (e .since ≤ clock) × ((e .age ≤ mostAge) × (clock ≤ lastReading))
-    age-fits e o = rw (o .same) (meta-age clock m (metaAt t i) legible-at)
+    age-fits e o = rw (o .same) (legible-at .entry .since, (legible-at .entry .age, g .reading))
 
     -- its data is a row
     pub data-row : (x : List ℕ) → x ≡ dataOf m (metaAt t i) → isRow x ≡ true

@@ -2,8 +2,8 @@
 use mathlib.Core.Path.{_≡_}
 use mathlib.Core.Bool.{Bool, false, not, _&&_, _||_}
 use mathlib.Core.List.{List, _++_, map}
-use Prim.Native.Nat.{ℕ, _≤_, _<_}
-use lib.ListN.{length, getD}
+use Prim.Native.Nat.{ℕ, _-_, _≤_, _<_}
+use lib.ListN.{length, getD, take, drop, replicate}
 use Rattle.base.specs.Lists.{any, keepBy, joinAll, All}
 use Rattle.model.specs.Figures.{mostNodes, tableBytes, lastReading}
 use Rattle.model.specs.Table.{Entry, idOf, underAge}
@@ -13,8 +13,9 @@ use Rattle.model.specs.State.{noEntry}
 use Rattle.model.specs.Invariant.{EntryFits}
 use Rattle.table.specs.declared.Table.{Table}
 use Rattle.table.specs.declared.Entry.{Entry as Meta}
-use Rattle.table.specs.View.{seen, view, FitMeta, Kept}
+use Rattle.table.specs.View.{metaId, live, seen, view, FitMeta, Kept}
 use Rattle.reach.specs.declared.link.Link.{Link}
+use Rattle.reach.specs.declared.list.Nodes.{Nodes}
 use Rattle.reach.specs.declared.mark.Wave.{Wave}
 use Rattle.reach.specs.declared.mark.Traversed.{Traversed}
 use Rattle.reach.specs.declared.Reached.{Reached}
@@ -90,3 +91,10 @@ pub record Levelled (own clock : ℕ) (t : List Entry) (r : Traversed) : Type 0 
 pub record Reaching (own clock : ℕ) (t : List Entry) (r : Reached) : Type 0 where
   pub marks : Marking own clock t (r .marks)
   pub digest : r .digest ≡ networkDigest own clock t
+
+-- the identifiers of the marked entries, in the table's order, and nothing behind them
+pub record Listed (marks : List Bool) (t : Table) (r : Nodes) : Type 0 where
+  pub few : r .count ≤ mostNodes
+  pub is : take (r .count) (r .list) ≡ map metaId (keepBy marks (live t))
+  pub wide : length (r .list) ≡ mostNodes
+  pub rest : drop (r .count) (r .list) ≡ replicate (mostNodes - r .count) 0

@@ -1,6 +1,7 @@
 // The network digest: over number and digest of each marked node, ascending.
 use base::big_endian::put_u32;
 use base::memory::store;
+use model::figures::MOST_NODES;
 use sha256::hash16;
 use table::Entry;
 use table::Table;
@@ -27,7 +28,7 @@ fn put_part(d: &mut [u8], at: usize, e: Entry)
 }
 
 // The digest over the marked nodes; the digest of each data is kept with the table.
-pub fn network_digest(t: Table, marks: [bool; 32]) -> [u8; 16]
+pub fn network_digest(t: Table, marks: [bool; MOST_NODES]) -> [u8; 16]
     requires { ⌜ Arranged t ⌝ }
     ensures { λ r. ⌜ ((m : List ℕ) → Kept t m → r ≡ digestOf (statements (keepBy marks (view t m)))) ⌝ }
 {

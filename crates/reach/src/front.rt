@@ -1,6 +1,6 @@
 // The front part of good data: its TLVs ascend by type, so that all its Peer TLVs stand before the first TLV of a higher type.
 use table::Entry;
-use table::SLOT;
+use table::bytes_of;
 use wire::row::tlv_at;
 ghost use mathlib.Core.Path.{_≡_};
 ghost use mathlib.Core.Bool.{true};
@@ -42,7 +42,5 @@ pub fn front_of<'a>(e: Entry, mem: &'a [u8]) -> &'a [u8]
     requires { ⌜ FitMeta e × ((tableBytes ≤ length (now mem)) × (good dataLimit (dataOf (now mem) e) ≡ true)) ⌝ }
     ensures { λ r. ⌜ Front (dataOf (now (mem .entry)) e) (now r) ⌝ }
 {
-    let a = e.slot * SLOT;
-    let b = a + e.len;
-    links_front(&mem[a..b])
+    links_front(bytes_of(e, mem))
 }

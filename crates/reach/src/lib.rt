@@ -2,8 +2,10 @@
 pub mod digest;
 pub mod front;
 pub mod link;
+pub mod list;
 pub mod mark;
 
+use model::figures::MOST_NODES;
 use table::Table;
 ghost use mathlib.Core.Path.{_≡_};
 ghost use mathlib.Core.Bool.{true};
@@ -15,7 +17,7 @@ ghost use Rattle.reach.specs.Marks.{Readable, Reaching};
 // Marks for the places of the table, and the network digest.
 #[repr(C)]
 pub struct Reached {
-    pub marks: [bool; 32],
+    pub marks: [bool; MOST_NODES],
     pub digest: [u8; 16],
 }
 

@@ -1,6 +1,8 @@
 // The marking: the levels round our own node, one after the other, until one adds nothing.
 use crate::front::front_of;
 use crate::link::is_joined;
+use model::figures::AGE_LIMIT;
+use model::figures::MOST_NODES;
 use table::Entry;
 use table::Found;
 use table::Table;
@@ -20,19 +22,25 @@ fn is_leading(e: Entry, f: Entry, mem: &[u8], clock: u64) -> bool
     requires { ⌜ Legible clock (now mem) e × Legible clock (now mem) f ⌝ }
     ensures { λ b. ⌜ b ≡ leads clock (seen (now (mem .entry)) e) (seen (now (mem .entry)) f) ⌝ }
 {
-    if 4294934528 <= age_at(e, clock) {
+    if AGE_LIMIT <= age_at(e, clock) {
         return false;
     }
     is_joined(front_of(e, mem), e.id, front_of(f, mem), f.id)
 }
 
 // The nodes not yet met that the level leads to.
-fn next_level(t: Table, mem: &[u8], clock: u64, level: [bool; 32], met: [bool; 32]) -> [bool; 32]
+fn next_level(
+    t: Table,
+    mem: &[u8],
+    clock: u64,
+    level: [bool; MOST_NODES],
+    met: [bool; MOST_NODES],
+) -> [bool; MOST_NODES]
     requires { ⌜ Readable clock t (now mem) ⌝ }
     ensures { λ r. ⌜ NextLevel clock (view t (now (mem .entry))) level met r ⌝ }
 {
     let count = t.count;
-    let mut next = [false; 32];
+    let mut next = [false; MOST_NODES];
     let mut r = 0;
     while r < count {
         if level[r] {
@@ -54,11 +62,11 @@ fn next_level(t: Table, mem: &[u8], clock: u64, level: [bool; 32], met: [bool; 3
 }
 
 // No mark is set.
-fn is_empty(marks: [bool; 32]) -> bool
+fn is_empty(marks: [bool; MOST_NODES]) -> bool
     ensures { λ r. ⌜ r ≡ not (any (λ b. b) marks) ⌝ }
 {
     let mut i = 0;
-    while i < 32 {
+    while i < MOST_NODES {
         if marks[i] {
             return false;
         }
@@ -68,12 +76,12 @@ fn is_empty(marks: [bool; 32]) -> bool
 }
 
 // The marks of either.
-fn either(x: [bool; 32], y: [bool; 32]) -> [bool; 32]
+fn either(x: [bool; MOST_NODES], y: [bool; MOST_NODES]) -> [bool; MOST_NODES]
     ensures { λ r. ⌜ Wide r × ((i : ℕ) → i < 32 → getD r i false ≡ getD x i false || getD y i false) ⌝ }
 {
     let mut r = x;
     let mut i = 0;
-    while i < 32 {
+    while i < MOST_NODES {
         if y[i] {
             r[i] = true;
         }
@@ -84,12 +92,12 @@ fn either(x: [bool; 32], y: [bool; 32]) -> [bool; 32]
 
 // The nodes met so far, and the last level of them.
 pub struct Wave {
-    pub met: [bool; 32],
-    pub level: [bool; 32],
+    pub met: [bool; MOST_NODES],
+    pub level: [bool; MOST_NODES],
 }
 
 // One level more.
-fn onward(w: Wave, next: [bool; 32]) -> Wave
+fn onward(w: Wave, next: [bool; MOST_NODES]) -> Wave
     requires { ⌜ Wide next ⌝ }
     ensures { λ r. ⌜ Onward w next r ⌝ }
 {
@@ -102,12 +110,12 @@ fn onward(w: Wave, next: [bool; 32]) -> Wave
 
 // The marks, and how many levels come after the first.
 pub struct Traversed {
-    pub marks: [bool; 32],
+    pub marks: [bool; MOST_NODES],
     pub levels: usize,
 }
 
 // All that is reached from the first level, which alone is met: at most 32 levels, left at the first that adds nothing.
-fn spread(t: Table, mem: &[u8], clock: u64, first: [bool; 32]) -> Traversed
+fn spread(t: Table, mem: &[u8], clock: u64, first: [bool; MOST_NODES]) -> Traversed
     requires { ⌜ Readable clock t (now mem) ⌝ }
     ensures { λ r. ⌜ Spread clock (view t (now (mem .entry))) first r ⌝ }
 {
@@ -116,7 +124,7 @@ fn spread(t: Table, mem: &[u8], clock: u64, first: [bool; 32]) -> Traversed
         level: first,
     };
     let mut k: usize = 0;
-    while k < 32 {
+    while k < MOST_NODES {
         let met = w.met;
         let level = w.level;
         let next = next_level(t, mem, clock, level, met);
@@ -138,7 +146,7 @@ pub fn mark(t: Table, mem: &[u8], own: u32, clock: u64) -> Traversed
     requires { ⌜ Readable clock t (now mem) × (isSome (look own (view t (now mem))) ≡ true) ⌝ }
     ensures { λ r. ⌜ Levelled own clock (view t (now (mem .entry))) r ⌝ }
 {
-    let mut first = [false; 32];
+    let mut first = [false; MOST_NODES];
     let found = find(t, own);
     let Found::At(i) = found else {
         return Traversed {

@@ -1,14 +1,15 @@
 -- The answers to requests: which node is served, and the states one after the other. Assumes nothing.
 use mathlib.Core.Path.{_≡_, refl, sym, ap, _∙_}
-use mathlib.Core.Bool.{Bool, true, false, cond}
+use mathlib.Core.Bool.{Bool, true, false, not, cond}
 use mathlib.Core.List.{List, _∷_, map}
 use Prim.Native.Nat.{ℕ, _+_, _≤_, _<_}
 use native.Mathlib.Omega.{arith}
+use lib.Dec.{eqb}
 use lib.ListN.{length, getD, drop}
 use Rattle.base.specs.Bytes.{mostU32}
 use Rattle.base.specs.Lists.{keepBy, isSome}
 use Rattle.base.proofs.Places.{getD-any}
-use Rattle.model.specs.Figures.{mostNodes}
+use Rattle.model.specs.Figures.{mostBytes, mostNodes}
 use Rattle.model.specs.Table.{Entry, idOf, look}
 use Rattle.model.specs.Reach.{inReach, reached}
 use Rattle.model.specs.State.{noEntry, State as ModelState}
@@ -21,28 +22,32 @@ use Rattle.table.specs.View.{noMeta, metaAt, seen, view, Arranged, Stands, Gap}
 use Rattle.table.proofs.Tables.{look-stands, look-gap, view-length, view-at}
 use Rattle.reach.specs.Marks.{Readable, Marking}
 use Rattle.base.proofs.Marks.{keep-by-end, keep-by-next}
-use Rattle.reach.proofs.Nodes.{fits-readable}
 use Rattle.reach.proofs.Reaching.{reached-by}
-use Rattle.node.proofs.Parts.{state-own, state-table, state-held}
+use Rattle.node.specs.declared.State.{State}
+use Rattle.node.specs.declared.peers.Peers.{Peers}
+use Rattle.node.proofs.Parts.{state-own, state-table}
 use Rattle.reply.specs.declared.Context.{Context}
-use Rattle.reply.specs.declared.Work.{Work}
-use Rattle.reply.specs.View.{contextOf, workOf, Sound, Ready, Stepped, Markable, Refreshed}
-use Rattle.reply.proofs.Steps.{work-own, work-table, stepped-none, stepped-to, stepped-more, stepped-then, ready-markable}
+use Rattle.reply.specs.declared.Progress.{Progress}
+use Rattle.reply.specs.View.{contextOf, Work, gather, workOf, Sound, Stepped, Markable, Refreshed, Open, Writes, Answers, Lists}
+use Rattle.reply.proofs.Steps.{work-own, work-table, stepped-none, stepped-to, stepped-more, stepped-then}
 use Rattle.reply.proofs.Replies.{replied-state}
 
 -- ---- what the marking asks
 
-module _ {c : Context} {w : Work} {m : List ℕ} (h : Markable c w m) where
-  pub markable-readable : Readable (c .clock) (w .state .table) m
-  markable-readable = fits-readable (w .state .own) (c .clock) (w .state .table) m (h .rep .table) (rw (state-own (w .state) m, state-table (w .state) m) at (h .midway .table)) (h .clock)
+module _ {c : Context} {t : Table} {d : Progress} {m : List ℕ} (h : Markable c t d m) where
+  pub markable-readable : Readable (c .clock) t m
+  markable-readable = record { kept = h .kept; entries = h .fits .entries; reading = h .clock }
 
-  pub markable-held : isSome (look (w .state .own) (view (w .state .table) m)) ≡ true
-  markable-held = state-held (w .state) m (h .midway .table .held)
+  pub markable-held : isSome (look (c .own) (view t m)) ≡ true
+  markable-held = h .fits .held
 
   -- they were worked out before
-  pub refreshed-before : w .fresh ≡ true → Refreshed c w m w
+  pub refreshed-before : d .fresh ≡ true → Refreshed c t d m d
   refreshed-before f =
-      record { state = refl; sender = refl; used = refl; omitted = refl; dropped = refl; fresh = f; reaching = h .cached f }
+      record { local = refl; sender = refl; headed = refl; used = refl; omitted = refl; dropped = refl; fresh = f; reaching = h .cached f }
+
+  pub digest-wide : d .fresh ≡ true → length (d .reached .digest) ≡ 16
+  digest-wide f = ap length (h .cached f .digest) ∙ digest-length (c .own) (c .clock) (view t m)
 
 -- ---- one node's state
 
@@ -134,42 +139,92 @@ module _ (c : Context) (t : Table) (marks : List Bool) (w : Work) (m r : List �
         reached-is : reachedNow (contextOf c) (workOf w m r) ≡ keepBy marks (view t m)
         reached-is = rw (work-own w m r, work-table w m r, ← q) (sym (reached-by (w .state .own) (c .clock) (view t m) marks g))
 
+-- as a step on the progress, whatever state and peers there are
+pub record Listing (c : Context) (t : Table) (marks : List Bool) (d : Progress) (m r : List ℕ) (i : ℕ) (v : Progress) (r′ : List ℕ) : Type 0 where
+  pub within : i ≤ t .count
+  pub sender : v .sender ≡ d .sender
+  pub used : v .used ≤ mostBytes
+  pub headed : v .headed ≡ not (eqb (v .used) 0)
+  pub omitted : v .omitted ≤ d .omitted + i
+  pub room : length r′ ≡ length r
+  pub listed : (b : State) (p : Peers) → Sound (c .clock) (gather c b t p d) m r → Listed c t marks (gather c b t p d) m r i (gather c b t p v) r′
+
+module _ (c : Context) (t : Table) (marks : List Bool) (d : Progress) (m r : List ℕ) (k : Arranged t) where
+  pub listing-start : d .used ≤ mostBytes → d .headed ≡ not (eqb (d .used) 0) → Listing c t marks d m r 0 d r
+  listing-start u e =
+      record { within = omega arith; sender = refl; used = u; headed = e; omitted = omega arith; room = refl; listed = λ b p h. list-start c t marks (gather c b t p d) m r k h }
+
+  module _ (i : ℕ) (v : Progress) (r′ : List ℕ) (l : Listing c t marks d m r i v r′) where
+    pub listing-stay : i < t .count → getD marks i false ≡ false → Listing c t marks d m r (i + 1) v r′
+    listing-stay q e =
+        record {
+          within = omega arith;
+          sender = l .sender;
+          used = l .used;
+          headed = l .headed;
+          omitted = omega (arith, l .omitted);
+          room = l .room;
+          listed = λ b p h. list-stay c t marks (gather c b t p d) m r k i (gather c b t p v) r′ (l .listed b p h) q e;
+        }
+
+    pub listing-on : i < t .count → getD marks i false ≡ true → (u : Progress) (r″ : List ℕ)
+        → Writes c 1 (reply (contextOf c) (shortState (c .clock) (seen m (metaAt t i)))) v r′ u r″ → Listing c t marks d m r (i + 1) u r″
+    listing-on q e u r″ s =
+        record {
+          within = omega arith;
+          sender = s .sender ∙ l .sender;
+          used = s .used;
+          headed = s .headed;
+          omitted = omega (arith, l .omitted, s .omitted);
+          room = s .room ∙ l .room;
+          listed = λ b p h. list-on c t marks (gather c b t p d) m r k i (gather c b t p v) r′ (l .listed b p h) q e (gather c b t p u) r″ (s .is b t p m (l .listed b p h .stepped .sound));
+        }
+
+    pub listing-end : t .count ≤ i → Marking (c .own) (c .clock) (view t m) marks → Lists c t d m r v r′
+    listing-end q g =
+        record { sender = l .sender; is = λ b p h. list-end c t marks (gather c b t p d) m r k i (gather c b t p v) r′ (l .listed b p h) q refl g }
+
 -- ---- the network's state: our digest, and then all of them
 
-module _ (c : Context) (w : Work) (m r : List ℕ) (h : Ready c w m r) (f : w .fresh ≡ true) where
-  pub digest-wide : length (w .reached .digest) ≡ 16
-  digest-wide = ap length (h .sound .cached f .digest) ∙ digest-length (w .state .own) (c .clock) (view (w .state .table) m)
+module _ (c : Context) (w : Work) (m r : List ℕ) (h : Sound (c .clock) w m r) (f : w .fresh ≡ true) (t : List ℕ) (v : Work) (r′ : List ℕ)
+    (s : Stepped c 1 (reply (contextOf c) t) w m r v m r′) where
+  same-own : v .state .own ≡ w .state .own
+  same-own = sym (state-own (v .state) m) ∙ ap (λ (x : ModelState). x .own) (replied-state t s) ∙ state-own (w .state) m
 
-  module _ (t : List ℕ) (v : Work) (r′ : List ℕ) (s : Stepped c 1 (reply (contextOf c) t) w m r v m r′) where
-    same-own : v .state .own ≡ w .state .own
-    same-own = sym (state-own (v .state) m) ∙ ap (λ (x : ModelState). x .own) (replied-state t s) ∙ state-own (w .state) m
+  same-view : view (v .state .table) m ≡ view (w .state .table) m
+  same-view = sym (state-table (v .state) m) ∙ ap (λ (x : ModelState). x .table) (replied-state t s) ∙ state-table (w .state) m
 
-    same-view : view (v .state .table) m ≡ view (w .state .table) m
-    same-view = sym (state-table (v .state) m) ∙ ap (λ (x : ModelState). x .table) (replied-state t s) ∙ state-table (w .state) m
+  network-answered : t ≡ networkTlv (w .reached .digest) → {u : Work} {r″ : List ℕ}
+      → Stepped c 32 (replies (contextOf c) (map (shortState (c .clock)) (reachedNow (contextOf c) (workOf v m r′)))) v m r′ u m r″
+      → Stepped c 33 (onRequestNetwork (contextOf c)) w m r u m r″
+  network-answered e n =
+      stepped-to (stepped-then s n) (onRequestNetwork (contextOf c))
+      (sym
+      (request-network (contextOf c) (workOf w m r)
+      ∙ replies-next (contextOf c) (workOf w m r) (networkTlv (digestNow (contextOf c) (workOf w m r))) (map (shortState (c .clock)) (reachedNow (contextOf c) (workOf w m r)))
+      ∙ ap (λ (x : List ℕ). replies (contextOf c) (map (shortState (c .clock)) (reachedNow (contextOf c) (workOf w m r))) (reply (contextOf c) x (workOf w m r))) (ap networkTlv (sym digest-is) ∙ sym e)
+      ∙ ap (λ (es : List Entry). replies (contextOf c) (map (shortState (c .clock)) es) (reply (contextOf c) t (workOf w m r))) same-reached))
+    where
+      digest-is : w .reached .digest ≡ digestNow (contextOf c) (workOf w m r)
+      digest-is = rw (work-own w m r, work-table w m r) (h .cached f .digest)
 
-    -- what the states ask of the work after the digest
-    pub states-asked : Sound (c .clock) v m r′ × (Readable (c .clock) (v .state .table) m × (Marking (v .state .own) (c .clock) (view (v .state .table) m) (w .reached .marks) × (v .omitted + mostNodes ≤ mostU32)))
-    states-asked = (
-      s .sound,
-      (
-        record { kept = s .sound .rep .table; entries = rw same-view (markable-readable (ready-markable h) .entries); reading = h .clock },
-        (rw (same-own, same-view) (h .sound .cached f .marks), omega (arith, s .omitted, h .omitted)),
-      ),
-    )
+      same-reached : reachedNow (contextOf c) (workOf w m r) ≡ reachedNow (contextOf c) (workOf v m r′)
+      same-reached = rw (work-own w m r, work-table w m r, work-own v m r′, work-table v m r′, same-own, same-view)
 
-    pub network-answered : t ≡ networkTlv (w .reached .digest) → {u : Work} {r″ : List ℕ}
-        → Stepped c 32 (replies (contextOf c) (map (shortState (c .clock)) (reachedNow (contextOf c) (workOf v m r′)))) v m r′ u m r″
-        → Stepped c 33 (onRequestNetwork (contextOf c)) w m r u m r″
-    network-answered e n =
-        stepped-to (stepped-then s n) (onRequestNetwork (contextOf c))
-        (sym
-        (request-network (contextOf c) (workOf w m r)
-        ∙ replies-next (contextOf c) (workOf w m r) (networkTlv (digestNow (contextOf c) (workOf w m r))) (map (shortState (c .clock)) (reachedNow (contextOf c) (workOf w m r)))
-        ∙ ap (λ (x : List ℕ). replies (contextOf c) (map (shortState (c .clock)) (reachedNow (contextOf c) (workOf w m r))) (reply (contextOf c) x (workOf w m r))) (ap networkTlv (sym digest-is) ∙ sym e)
-        ∙ ap (λ (es : List Entry). replies (contextOf c) (map (shortState (c .clock)) es) (reply (contextOf c) t (workOf w m r))) same-reached))
-      where
-        digest-is : w .reached .digest ≡ digestNow (contextOf c) (workOf w m r)
-        digest-is = rw (work-own w m r, work-table w m r) (h .sound .cached f .digest)
+-- as the code does it, once marks and digest are worked out
+module _ {c : Context} {t : Table} {u : Progress} {m r : List ℕ} {v : Progress} {r′ : List ℕ} (x : List ℕ) (s : Writes c 1 (reply (contextOf c) x) u r v r′) where
+  -- what the states ask of the progress after the digest
+  pub states-asked : Open c t u m r → u .fresh ≡ true
+      → Readable (c .clock) t m × (Marking (c .own) (c .clock) (view t m) (u .reached .marks) × ((v .used ≤ mostBytes) × ((mostBytes ≤ length r′) × ((v .headed ≡ not (eqb (v .used) 0)) × (v .omitted + mostNodes ≤ mostU32)))))
+  states-asked h f = (
+    markable-readable (h .marks),
+    (h .marks .cached f .marks, (s .used, (omega (arith, h .room, s .room), (s .headed, omega (arith, s .omitted, h .omitted))))),
+  )
 
-        same-reached : reachedNow (contextOf c) (workOf w m r) ≡ reachedNow (contextOf c) (workOf v m r′)
-        same-reached = rw (work-own w m r, work-table w m r, work-own v m r′, work-table v m r′, same-own, same-view)
+  pub network-listed : u .fresh ≡ true → x ≡ networkTlv (u .reached .digest) → {w : Progress} {r″ : List ℕ} → Lists c t v m r′ w r″
+      → Answers c 33 (onRequestNetwork (contextOf c)) t u m r w r″
+  network-listed f e l =
+      record {
+        sender = l .sender ∙ s .sender;
+        is = λ b p h. network-answered c (gather c b t p u) m r h f x (gather c b t p v) r′ (s .is b t p m h) e (l .is b p (s .is b t p m h .sound));
+      }

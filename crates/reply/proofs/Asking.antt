@@ -1,25 +1,31 @@
 -- The request for network state: held back, left out, or written and noted. Assumes nothing.
 use mathlib.Core.Path.{_≡_, refl, sym, ap, _∙_}
-use mathlib.Core.Bool.{true}
+use mathlib.Core.Bool.{true, not}
 use mathlib.Core.List.{List, [], _∷_}
 use Prim.Native.Nat.{ℕ, _+_, _≤_, _<_}
 use native.Mathlib.Omega.{arith}
+use lib.Dec.{eqb}
 use lib.ListN.{length}
 use borrow.Author.Tests.{le-leb, lt-leb}
 use Rattle.base.proofs.Tests.{by-test}
 use Rattle.wire.specs.Row.{encode}
-use Rattle.model.specs.State.{State as ModelState, endpointAt, withEndpoint, withNext}
+use Rattle.model.specs.Figures.{mostBytes}
+use Rattle.model.specs.State.{State as ModelState, Endpoint as ModelEndpoint, endpointAt, withEndpoint, withNext}
 use Rattle.model.specs.Messages.{requestNetworkTlv}
 use Rattle.model.specs.Handle.{withState, fits, reply, mayAsk, hasAsked, askNetwork}
 use Rattle.model.proofs.Cases.{ask-held, ask-written, ask-full}
 use Rattle.model.proofs.KeptSteps.{reply-state}
+use Rattle.table.specs.declared.Table.{Table}
 use Rattle.node.specs.declared.State.{State}
 use Rattle.node.specs.declared.Endpoint.{Endpoint}
-use Rattle.node.specs.View.{endpointOf, stateOf, Moved}
+use Rattle.node.specs.declared.peers.Peers.{Peers}
+use Rattle.node.specs.View.{endpointOf, stateOf, Rep, Moved}
+use Rattle.node.proofs.Moves.{moved-to}
 use Rattle.reply.specs.declared.Context.{Context}
-use Rattle.reply.specs.declared.Work.{Work}
-use Rattle.reply.specs.View.{contextOf, workOf, Sound, Stepped}
-use Rattle.reply.proofs.Steps.{work-state, putState, stepped-none, stepped-to, stepped-more, stepped-then, stepped-kept}
+use Rattle.reply.specs.declared.Progress.{Progress}
+use Rattle.reply.specs.Updates.{withLocal}
+use Rattle.reply.specs.View.{contextOf, Work, gather, workOf, Sound, Stepped, Writes}
+use Rattle.reply.proofs.Steps.{work-state, putState, stepped-none, stepped-to, stepped-more, stepped-then, stepped-kept, gathered, local-is, local-moved}
 use Rattle.reply.proofs.Replies.{replied-used, replied-none}
 
 -- the bytes of the request
@@ -68,3 +74,52 @@ module _ (c : Context) (w : Work) (m r : List ℕ) (h : Sound (c .clock) w m r) 
             stepped-kept (s .sound) (λ y. withState (hasAsked (contextOf c) (y .state)) y)
             (hasAsked (contextOf c) (stateOf (v .state) m)) x k o t
             (ap (λ (y : ModelState). withState (hasAsked (contextOf c) y) (workOf v m r′)) (work-state v m r′))
+
+-- ---- as a step on the progress
+
+-- the call's endpoint, the next request from n on
+abbrev pub localNext : ℕ → Progress → Progress
+localNext n d = withLocal (record { trickle = d .local .trickle; next = n }) d
+
+module _ (c : Context) (low : 1 ≤ c .endpoint) (high : c .endpoint ≤ 4) where
+  next-moved : (n : ℕ) (b : State) (t : Table) (p : Peers) (d : Progress) (m : List ℕ) → Rep (gathered c b t p d) m
+      → Moved (withEndpoint (c .endpoint) (withNext n (endpointAt (c .endpoint) (stateOf (gathered c b t p d) m))) (stateOf (gathered c b t p d) m)) m (gathered c b t p (localNext n d)) m
+  next-moved n b t p d m k =
+      moved-to (local-moved c b t p d m k low high (record { trickle = d .local .trickle; next = n }))
+      (ap (λ (e : ModelEndpoint). withEndpoint (c .endpoint) (withNext n e) (stateOf (gathered c b t p d) m)) (local-is c b t p d m k low high))
+
+  module _ (d : Progress) (r : List ℕ) where
+    pub progress-early : d .used ≤ mostBytes → d .headed ≡ not (eqb (d .used) 0) → c .clock < d .local .next → Writes c 1 (askNetwork (contextOf c)) d r d r
+    progress-early u z q =
+        record {
+          sender = refl;
+          used = u;
+          headed = z;
+          omitted = omega arith;
+          room = refl;
+          is = λ b t p m h. ask-early c (gather c b t p d) m r h (d .local) (local-is c b t p d m (h .rep) low high) q;
+        }
+
+    module _ (q : d .local .next ≤ c .clock) (v : Progress) (r′ : List ℕ) (s : Writes c 1 (reply (contextOf c) requestNetworkTlv) d r v r′) where
+      pub progress-left-out : v .used ≡ d .used → Writes c 1 (askNetwork (contextOf c)) d r v r′
+      progress-left-out z =
+          record {
+            sender = s .sender;
+            used = s .used;
+            headed = s .headed;
+            omitted = s .omitted;
+            room = s .room;
+            is = λ b t p m h. ask-omitted c (gather c b t p d) m r h (d .local) (local-is c b t p d m (h .rep) low high) q (gather c b t p v) r′ (s .is b t p m h) z;
+          }
+
+      pub progress-asked : ¬ (v .used ≡ d .used) → Writes c 1 (askNetwork (contextOf c)) d r (localNext (c .clock + 200) v) r′
+      progress-asked z =
+          record {
+            sender = s .sender;
+            used = s .used;
+            headed = s .headed;
+            omitted = s .omitted;
+            room = s .room;
+            is = λ b t p m h. ask-noted c (gather c b t p d) m r h (d .local) (local-is c b t p d m (h .rep) low high) q (gather c b t p v) r′ (s .is b t p m h) z
+                (gathered c b t p (localNext (c .clock + 200) v)) (next-moved (c .clock + 200) b t p v m (s .is b t p m h .sound .rep)) refl refl;
+          }

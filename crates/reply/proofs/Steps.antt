@@ -4,17 +4,18 @@ use mathlib.Core.Path.{_≡_, refl, sym, ap, _∙_, subst}
 use mathlib.Core.Bool.{Bool, true, false}
 use mathlib.Core.List.{List, _++_}
 use mathlib.Core.Option.{none, some}
-use Prim.Native.Nat.{ℕ, _+_, _≤_}
+use Prim.Native.Nat.{ℕ, _+_, _-_, _≤_}
 use native.Mathlib.Omega.{arith}
-use lib.ListN.{length, take}
-use lib.Seq.{length-take-le}
+use lib.ListN.{length, take, length-set}
+use borrow.Author.Tests.{ne-eqb}
+use lib.Seq.{length-take-le, getD-set-same, set-set}
 use Rattle.base.specs.Memory.{written}
 use Rattle.base.proofs.Tests.{no-way}
 use Rattle.base.proofs.Lists.{drop-later}
 use Rattle.base.proofs.Written.{written-length, written-taken, written-left}
 use Rattle.model.specs.Figures.{mostBytes}
 use Rattle.model.specs.Table.{Entry}
-use Rattle.model.specs.State.{State as ModelState}
+use Rattle.model.specs.State.{State as ModelState, endpointAt, withEndpoint}
 use Rattle.model.specs.Handle.{Work as ModelWork, withState, withSender, withOut, omitOne, dropOne, digestNow}
 use Rattle.model.specs.Invariant.{Midway}
 use Rattle.table.specs.View.{view, SlotsStay, Wrote}
@@ -23,11 +24,16 @@ use Rattle.table.proofs.Laying.{stays-self, wrote-later, wrote-still, kept-wrot
 use Rattle.reach.specs.declared.Reached.{Reached}
 use Rattle.reach.specs.Marks.{Reaching}
 use Rattle.node.specs.declared.State.{State}
-use Rattle.node.specs.View.{stateOf, Rep, Moved, Published}
+use Rattle.node.specs.declared.Endpoint.{Endpoint}
+use Rattle.node.specs.declared.peers.Peers.{Peers}
+use Rattle.node.specs.View.{endpointOf, stateOf, Rep, Moved, Published}
+use Rattle.node.proofs.Parts.{state-own, state-table, state-endpoint, pred-is, putEndpoints}
+use Rattle.node.proofs.Moves.{endpoint-moved}
 use Rattle.reply.specs.declared.Context.{Context}
 use Rattle.reply.specs.declared.Sender.{Sender}
-use Rattle.reply.specs.declared.Work.{Work}
-use Rattle.reply.specs.View.{contextOf, workOf, Sound, Ready, Stepped, Markable, Refreshed}
+use Rattle.reply.specs.declared.Progress.{Progress}
+use Rattle.reply.specs.Updates.{withLocal}
+use Rattle.reply.specs.View.{contextOf, Work, gather, workOf, Sound, Ready, Stepped, Markable, Refreshed, Open}
 
 -- ---- the model's work by its parts
 
@@ -72,23 +78,23 @@ module _ (w : Work) (m r : List ℕ) where
 
 -- the state; `b` says whether marks and digest are still those of its table
 abbrev pub putState : State → Bool → Work → Work
-putState s b w = record { state = s; sender = w .sender; used = w .used; omitted = w .omitted; dropped = w .dropped; fresh = b; reached = w .reached }
+putState s b w = record { state = s; sender = w .sender; headed = w .headed; used = w .used; omitted = w .omitted; dropped = w .dropped; fresh = b; reached = w .reached }
 
 abbrev pub putSender : Sender → Work → Work
-putSender f w = record { state = w .state; sender = f; used = w .used; omitted = w .omitted; dropped = w .dropped; fresh = w .fresh; reached = w .reached }
+putSender f w = record { state = w .state; sender = f; headed = w .headed; used = w .used; omitted = w .omitted; dropped = w .dropped; fresh = w .fresh; reached = w .reached }
 
 abbrev pub putUsed : ℕ → Work → Work
-putUsed n w = record { state = w .state; sender = w .sender; used = n; omitted = w .omitted; dropped = w .dropped; fresh = w .fresh; reached = w .reached }
+putUsed n w = record { state = w .state; sender = w .sender; headed = true; used = n; omitted = w .omitted; dropped = w .dropped; fresh = w .fresh; reached = w .reached }
 
 abbrev pub putOmitted : ℕ → Work → Work
-putOmitted n w = record { state = w .state; sender = w .sender; used = w .used; omitted = n; dropped = w .dropped; fresh = w .fresh; reached = w .reached }
+putOmitted n w = record { state = w .state; sender = w .sender; headed = w .headed; used = w .used; omitted = n; dropped = w .dropped; fresh = w .fresh; reached = w .reached }
 
 abbrev pub putDropped : ℕ → Work → Work
-putDropped n w = record { state = w .state; sender = w .sender; used = w .used; omitted = w .omitted; dropped = n; fresh = w .fresh; reached = w .reached }
+putDropped n w = record { state = w .state; sender = w .sender; headed = w .headed; used = w .used; omitted = w .omitted; dropped = n; fresh = w .fresh; reached = w .reached }
 
 -- marks and digest, worked out
 abbrev pub putReached : Reached → Work → Work
-putReached g w = record { state = w .state; sender = w .sender; used = w .used; omitted = w .omitted; dropped = w .dropped; fresh = true; reached = g }
+putReached g w = record { state = w .state; sender = w .sender; headed = w .headed; used = w .used; omitted = w .omitted; dropped = w .dropped; fresh = true; reached = g }
 
 module _ (w : Work) (m r : List ℕ) where
   pub state-put : (s : State) (b : Bool) (m′ : List ℕ) → workOf (putState s b w) m′ r ≡ withState (stateOf s m′) (workOf w m r)
@@ -121,26 +127,26 @@ module _ (w : Work) (m r : List ℕ) where
 module _ {clock : ℕ} {w : Work} {m r : List ℕ} (h : Sound clock w m r) where
   -- another state over the same table: marks and digest stay
   pub sound-state : (s : State) → Rep s m → s .own ≡ w .state .own → s .table ≡ w .state .table → Sound clock (putState s (w .fresh) w) m r
-  sound-state s k o t = record { rep = k; used = h .used; room = h .room; cached = λ f. rw (o, t) (h .cached f) }
+  sound-state s k o t = record { rep = k; used = h .used; room = h .room; headed = h .headed; cached = λ f. rw (o, t) (h .cached f) }
 
   -- another table: they are to be worked out anew
   pub sound-anew : (s : State) (m′ : List ℕ) → Rep s m′ → Sound clock (putState s false w) m′ r
-  sound-anew s m′ k = record { rep = k; used = h .used; room = h .room; cached = λ f. no-way false f refl }
+  sound-anew s m′ k = record { rep = k; used = h .used; room = h .room; headed = h .headed; cached = λ f. no-way false f refl }
 
   pub sound-sender : (f : Sender) → Sound clock (putSender f w) m r
-  sound-sender f = record { rep = h .rep; used = h .used; room = h .room; cached = h .cached }
+  sound-sender f = record { rep = h .rep; used = h .used; room = h .room; headed = h .headed; cached = h .cached }
 
   pub sound-omitted : (n : ℕ) → Sound clock (putOmitted n w) m r
-  sound-omitted n = record { rep = h .rep; used = h .used; room = h .room; cached = h .cached }
+  sound-omitted n = record { rep = h .rep; used = h .used; room = h .room; headed = h .headed; cached = h .cached }
 
   pub sound-dropped : (n : ℕ) → Sound clock (putDropped n w) m r
-  sound-dropped n = record { rep = h .rep; used = h .used; room = h .room; cached = h .cached }
+  sound-dropped n = record { rep = h .rep; used = h .used; room = h .room; headed = h .headed; cached = h .cached }
 
-  pub sound-used : (n : ℕ) (r′ : List ℕ) → n ≤ mostBytes → length r′ ≡ length r → Sound clock (putUsed n w) m r′
-  sound-used n r′ p e = record { rep = h .rep; used = p; room = rw e (h .room); cached = h .cached }
+  pub sound-used : (n : ℕ) (r′ : List ℕ) → n ≤ mostBytes → ¬ (n ≡ 0) → length r′ ≡ length r → Sound clock (putUsed n w) m r′
+  sound-used n r′ p z e = record { rep = h .rep; used = p; room = rw e (h .room); headed = rw (ne-eqb n 0 z); cached = h .cached }
 
   pub sound-reached : (g : Reached) → Reaching (w .state .own) clock (view (w .state .table) m) g → Sound clock (putReached g w) m r
-  sound-reached g k = record { rep = h .rep; used = h .used; room = h .room; cached = λ f. k }
+  sound-reached g k = record { rep = h .rep; used = h .used; room = h .room; headed = h .headed; cached = λ f. k }
 
 -- ---- one step, and the next
 
@@ -261,14 +267,14 @@ module _ {c : Context} {w : Work} {m r : List ℕ} (h : Sound (c .clock) w m r) 
       stepped-still 1 f (putDropped (w .dropped + 1) w) (dropped-put w m r ∙ sym e) (sound-dropped h (w .dropped + 1)) (omega arith) (omega arith) refl refl
 
   -- the bytes x written to the room
-  pub stepped-written : (x r′ : List ℕ) (n : ℕ) → r′ ≡ written r (w .used) x → n ≡ w .used + length x → n ≤ mostBytes
+  pub stepped-written : (x r′ : List ℕ) (n : ℕ) → r′ ≡ written r (w .used) x → n ≡ w .used + length x → n ≤ mostBytes → ¬ (n ≡ 0)
       → f (workOf w m r) ≡ withOut (workOf w m r .out ++ x) (workOf w m r) → Stepped c 0 f w m r (putUsed n w) m r′
-  stepped-written x r′ n k q p e =
+  stepped-written x r′ n k q p y e =
       let l : w .used + length x ≤ length r = omega (arith, h .room) in
       let z : length r′ ≡ length r = rw k (written-length r x (w .used) l) in
       record {
         is = used-put w m r n r′ ∙ ap (λ (o : List ℕ). withOut o (workOf w m r)) (rw (q, work-out w m r) (written-taken r r′ x (w .used) k l)) ∙ sym e;
-        sound = sound-used h n r′ p z;
+        sound = sound-used h n r′ p y z;
         omitted = omega arith;
         dropped = omega arith;
         wrote = kept-wrote (w .state .table) (w .state .table) m (stays-self (w .state .table)) (h .rep .table);
@@ -279,59 +285,103 @@ module _ {c : Context} {w : Work} {m r : List ℕ} (h : Sound (c .clock) w m r) 
         rest = rw q (written-left r r′ x (w .used) k l);
       }
 
+-- ---- the parts
+
+-- the state that the parts stand for
+abbrev pub gathered : Context → State → Table → Peers → Progress → State
+gathered c b t p d = gather c b t p d .state
+
+module _ (c : Context) (b : State) (t : Table) (p : Peers) (d : Progress) (m : List ℕ) (k : Rep (gathered c b t p d) m) (low : 1 ≤ c .endpoint) (high : c .endpoint ≤ 4) where
+  four : length (b .endpoints) ≡ 4
+  four = sym (length-set (b .endpoints) (c .endpoint - 1) (d .local)) ∙ k .four
+
+  -- the endpoint of the call
+  pub local-is : endpointOf (d .local) ≡ endpointAt (c .endpoint) (stateOf (gathered c b t p d) m)
+  local-is =
+      sym
+      (state-endpoint (gathered c b t p d) m (c .endpoint) (c .endpoint - 1) (d .local) (k .four) (pred-is (c .endpoint)) (omega arith)
+      ∙ ap endpointOf (getD-set-same (b .endpoints) (c .endpoint - 1) (d .local) (d .local) (omega (arith, four))))
+
+  -- another in its place
+  pub local-moved : (e : Endpoint) → Moved (withEndpoint (c .endpoint) (endpointOf e) (stateOf (gathered c b t p d) m)) m (gathered c b t p (withLocal e d)) m
+  local-moved e =
+      subst (λ (es : List Endpoint). Moved (withEndpoint (c .endpoint) (endpointOf e) (stateOf (gathered c b t p d) m)) m (putEndpoints es (gathered c b t p d)) m)
+      (set-set (b .endpoints) (c .endpoint - 1) (d .local) e)
+      (endpoint-moved (gathered c b t p d) m k (c .endpoint) (c .endpoint - 1) e (pred-is (c .endpoint)))
+
+-- what a TLV may rely on holds of the parts
+pub ready-open : {c : Context} (b : State) {t : Table} (p : Peers) {d : Progress} {m r : List ℕ} → Ready c (gather c b t p d) m r → Open c t d m r
+ready-open {c} b {t} p {d} {m} h =
+    record {
+      marks = record { kept = h .sound .rep .table; fits = rw (state-own (gathered c b t p d) m, state-table (gathered c b t p d) m) at (h .midway .table); clock = h .clock; cached = h .sound .cached };
+      used = h .sound .used;
+      room = h .sound .room;
+      headed = h .sound .headed;
+      omitted = h .omitted;
+      dropped = h .dropped;
+      first = h .first;
+      fourth = h .fourth;
+    }
+
 -- ---- marks and digest worked out
 
-same-work : {s s′ : State} {f f′ : Sender} {u u′ o o′ d d′ : ℕ} {b b′ : Bool} (g : Reached) → s ≡ s′ → f ≡ f′ → u ≡ u′ → o ≡ o′ → d ≡ d′ → b ≡ b′
-    → _≡_ {A = Work} (record { state = s; sender = f; used = u; omitted = o; dropped = d; fresh = b; reached = g })
-    (record { state = s′; sender = f′; used = u′; omitted = o′; dropped = d′; fresh = b′; reached = g })
-same-work g e1 e2 e3 e4 e5 e6 = cc
+same-work : {f f′ : Sender} {u u′ o o′ d d′ : ℕ} {e e′ : Endpoint} {a a′ b b′ : Bool} (c : Context) (s : State) (t : Table) (p : Peers) (g : Reached)
+    → e ≡ e′ → f ≡ f′ → a ≡ a′ → u ≡ u′ → o ≡ o′ → d ≡ d′ → b ≡ b′
+    → gather c s t p (record { local = e; sender = f; headed = a; used = u; omitted = o; dropped = d; fresh = b; reached = g })
+    ≡ gather c s t p (record { local = e′; sender = f′; headed = a′; used = u′; omitted = o′; dropped = d′; fresh = b′; reached = g })
+same-work c s t p g e1 e2 e3 e4 e5 e6 e7 = cc
 
-module _ {c : Context} {w : Work} {m : List ℕ} {v : Work} (h : Refreshed c w m v) where
-  pub refreshed-is : v ≡ putReached (v .reached) w
-  refreshed-is = same-work (v .reached) (h .state) (h .sender) (h .used) (h .omitted) (h .dropped) (h .fresh)
+module _ {c : Context} {t : Table} {d : Progress} {m : List ℕ} {v : Progress} (h : Refreshed c t d m v) where
+  -- the representation is kept
+  pub refreshed-marks : Markable c t d m → Markable c t v m
+  refreshed-marks k =
+      record { kept = k .kept; fits = k .fits; clock = k .clock; cached = λ e. h .reaching }
 
-  -- the model's work is the same
-  pub refreshed-work : (r : List ℕ) → workOf v m r ≡ workOf w m r
-  refreshed-work r = ap (λ (x : Work). workOf x m r) refreshed-is ∙ reached-put w m r (v .reached)
-
-  pub refreshed-sound : (r : List ℕ) → Sound (c .clock) w m r → Sound (c .clock) v m r
-  refreshed-sound r k = subst (λ (x : Work). Sound (c .clock) x m r) (sym refreshed-is) (sound-reached k (v .reached) (h .reaching))
-
-  pub refreshed-ready : (r : List ℕ) → Ready c w m r → Ready c v m r
-  refreshed-ready r k =
+  pub refreshed-open : (r : List ℕ) → Open c t d m r → Open c t v m r
+  refreshed-open r k =
       record {
-        sound = refreshed-sound r (k .sound);
-        midway = rw (h .state) (k .midway);
-        clock = k .clock;
-        first = k .first;
-        fourth = k .fourth;
+        marks = refreshed-marks (k .marks);
+        used = rw (h .used) (k .used);
+        room = k .room;
+        headed = rw (h .headed, h .used) (k .headed);
         omitted = rw (h .omitted) (k .omitted);
         dropped = rw (h .dropped) (k .dropped);
+        first = k .first;
+        fourth = k .fourth;
       }
 
-  pub refreshed-stepped : (r : List ℕ) → Sound (c .clock) w m r → Stepped c 0 (λ x. x) w m r v m r
-  refreshed-stepped r k =
-      stepped-still 0 (λ x. x) v (refreshed-work r) (refreshed-sound r k) (omega (arith, h .omitted)) (omega (arith, h .dropped)) (h .used) (ap (λ (s : State). s .table) (h .state))
+  module _ (b : State) (p : Peers) where
+    refreshed-is : gather c b t p v ≡ putReached (v .reached) (gather c b t p d)
+    refreshed-is = same-work c b t p (v .reached) (h .local) (h .sender) (h .headed) (h .used) (h .omitted) (h .dropped) (h .fresh)
 
-  -- a step from there is a step from the work before
-  pub refreshed-then : {k : ℕ} {f : ModelWork → ModelWork} {r : List ℕ} {u : Work} {m′ r′ : List ℕ} → Stepped c k f v m r u m′ r′ → Stepped c k f w m r u m′ r′
-  refreshed-then {f = f} {r = r} {u = u} {m′ = m′} s =
-      record {
-        is = s .is ∙ ap f (refreshed-work r);
-        sound = s .sound;
-        omitted = omega (arith, s .omitted, h .omitted);
-        dropped = omega (arith, s .dropped, h .dropped);
-        wrote = subst (λ (t : Table). Wrote t m (view (u .state .table) m′) (u .state .table) m′) (ap (λ (x : State). x .table) (h .state)) (s .wrote);
-        size = s .size;
-        beyond = s .beyond;
-        room = s .room;
-        onward = omega (arith, s .onward, h .used);
-        rest = s .rest;
-      }
+    -- the model's work is the same
+    pub refreshed-work : (r : List ℕ) → workOf (gather c b t p v) m r ≡ workOf (gather c b t p d) m r
+    refreshed-work r = ap (λ (x : Work). workOf x m r) refreshed-is ∙ reached-put (gather c b t p d) m r (v .reached)
 
-  -- marks and digest are the model's
-  pub refreshed-digest : (r : List ℕ) → v .reached .digest ≡ digestNow (contextOf c) (workOf w m r)
-  refreshed-digest r = rw (work-own w m r, work-table w m r) (h .reaching .digest)
+    pub refreshed-sound : (r : List ℕ) → Sound (c .clock) (gather c b t p d) m r → Sound (c .clock) (gather c b t p v) m r
+    refreshed-sound r k = subst (λ (x : Work). Sound (c .clock) x m r) (sym refreshed-is) (sound-reached k (v .reached) (h .reaching))
 
-pub ready-markable : {c : Context} {w : Work} {m r : List ℕ} → Ready c w m r → Markable c w m
-ready-markable h = record { rep = h .sound .rep; midway = h .midway; clock = h .clock; cached = h .sound .cached }
+    pub refreshed-stepped : (r : List ℕ) → Sound (c .clock) (gather c b t p d) m r → Stepped c 0 (λ x. x) (gather c b t p d) m r (gather c b t p v) m r
+    refreshed-stepped r k =
+        stepped-still 0 (λ x. x) (gather c b t p v) (refreshed-work r) (refreshed-sound r k) (omega (arith, h .omitted)) (omega (arith, h .dropped)) (h .used) refl
+
+    -- a step from there is a step from the work before
+    pub refreshed-then : {k : ℕ} {f : ModelWork → ModelWork} {r : List ℕ} {u : Work} {m′ r′ : List ℕ} → Stepped c k f (gather c b t p v) m r u m′ r′
+        → Stepped c k f (gather c b t p d) m r u m′ r′
+    refreshed-then {f = f} {r = r} s =
+        record {
+          is = s .is ∙ ap f (refreshed-work r);
+          sound = s .sound;
+          omitted = omega (arith, s .omitted, h .omitted);
+          dropped = omega (arith, s .dropped, h .dropped);
+          wrote = s .wrote;
+          size = s .size;
+          beyond = s .beyond;
+          room = s .room;
+          onward = omega (arith, s .onward, h .used);
+          rest = s .rest;
+        }
+
+    -- marks and digest are the model's
+    pub refreshed-digest : (r : List ℕ) → v .reached .digest ≡ digestNow (contextOf c) (workOf (gather c b t p d) m r)
+    refreshed-digest r = rw (work-own (gather c b t p d) m r, work-table (gather c b t p d) m r) (h .reaching .digest)

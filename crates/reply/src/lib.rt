@@ -1,12 +1,13 @@
-// What goes from one TLV to the next, replies into the lent room, and the answers to requests.
+// What goes from one TLV to the next, and replies into the lent room.
 pub mod put;
-pub mod request;
+pub mod tell;
 
-use node::State;
+use node::Endpoint;
 use reach::Reached;
 
 // What holds for every TLV of a call; `others`: a Node State about another node is in the datagram.
 pub struct Context {
+    pub own: u32,
     pub clock: u64,
     pub endpoint: u32,
     pub unicast: bool,
@@ -20,10 +21,12 @@ pub struct Sender {
     pub endpoint: u32,
 }
 
-// The state, the sender, the bytes written, replies omitted and TLVs dropped; marks and digest while `fresh` is set.
-pub struct Work {
-    pub state: State,
+// What a call keeps beside table and peers: the endpoint it is on, the sender; whether our Node Endpoint TLV stands in front of the replies, the bytes
+// written, replies omitted and TLVs dropped; marks and digest while `fresh` is set.
+pub struct Progress {
+    pub local: Endpoint,
     pub sender: Sender,
+    pub headed: bool,
     pub used: usize,
     pub omitted: u32,
     pub dropped: u32,

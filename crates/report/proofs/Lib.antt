@@ -1,5 +1,4 @@
 -- The laws of the report.
-pub mod Digits
 pub mod Puts
 pub mod Lines
 pub mod Adding

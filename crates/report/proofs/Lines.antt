@@ -14,7 +14,8 @@ use Rattle.base.specs.Lists.{any, keep, joinAll}
 use Rattle.base.proofs.Tests.{by-test, by-order}
 use Rattle.base.proofs.Lists.{map-append, join-append, keep-append, keep-never}
 use Rattle.wire.specs.Payment.{Payment}
-use Rattle.report.specs.Report.{decimal, line, upTo}
+use Rattle.text.specs.Decimal.{decimal, line}
+use Rattle.report.specs.Report.{upTo}
 use Rattle.report.specs.Steps.{linesTo}
 
 keep-next : (m : ℕ → Bool) (n : ℕ) → keep m (upTo (suc n)) ≡ keep m (upTo n) ++ cond (m (suc n)) (suc n ∷ []) []

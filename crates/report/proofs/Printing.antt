@@ -33,12 +33,14 @@ use Rattle.reach.specs.declared.Reached.{Reached}
 use Rattle.reach.proofs.Reaching.{reached-by}
 use Rattle.snapshot.specs.declared.load.Loaded.{Loaded}
 use Rattle.snapshot.specs.Answers.{LoadedFrom}
-use Rattle.report.specs.Report.{decimal, signed, heading, allName, line, refusedLine, upTo, report, printed, reportBytes, PrintedTo}
-use Rattle.report.specs.Steps.{Put, sumAt, markAt, paidIn, Behind, SumsAre, Lent, linesTo, lines}
+use Rattle.text.specs.Decimal.{decimal, signed, line}
+use Rattle.text.specs.Room.{Put}
+use Rattle.text.proofs.Digits.{decimal-short, signed-short}
+use Rattle.text.proofs.Puts.{put-then, first-fits, second-fits}
+use Rattle.report.specs.Report.{heading, allName, refusedLine, upTo, report, printed, reportBytes, PrintedTo}
+use Rattle.report.specs.Steps.{sumAt, markAt, paidIn, Behind, SumsAre, Lent, linesTo, lines}
 use Rattle.report.proofs.Adding.{behind-none}
-use Rattle.report.proofs.Digits.{decimal-short, signed-short}
 use Rattle.report.proofs.Lines.{lines-same, lines-short, payers-few}
-use Rattle.report.proofs.Puts.{put-then, first-fits, second-fits}
 use Rattle.report.proofs.Few.{nodes-readable}
 
 -- the lines of these nodes' households

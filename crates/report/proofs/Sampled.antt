@@ -19,7 +19,8 @@ use Rattle.model.specs.Reach.{links, joined, touched, levelsFrom, levels, met, 
 use Rattle.model.specs.Totals.{paymentsIn, readable, totalOf, sumOf}
 use Rattle.model.specs.Snapshot.{reads, loadEntries, load}
 use Rattle.model.specs.Examples.{sample}
-use Rattle.report.specs.Report.{decimalOf, decimal, signed, heading, allName, line, upTo, report, printed}
+use Rattle.text.specs.Decimal.{decimalOf, decimal, signed, line}
+use Rattle.report.specs.Report.{heading, allName, upTo, report, printed}
 use Rattle.report.specs.Steps.{paidIn, linesTo}
 use Rattle.report.specs.Sample.{Samples, alone, minus, plus, overlong}
 use Rattle.report.proofs.Lines.{only-one}

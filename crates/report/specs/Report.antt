@@ -1,30 +1,16 @@
 -- What the program `totals` prints (document 01, Payments, totals, the book). Assumes nothing.
 use mathlib.Core.Path.{_≡_}
-use mathlib.Core.Bool.{cond}
 use mathlib.Core.List.{List, [], _∷_, _++_, map}
-use Prim.Native.Nat.{ℕ, zero, suc, _+_, _/_, _%_, _≤_}
+use Prim.Native.Nat.{ℕ, zero, suc, _≤_}
 use lib.ListN.{length, take, drop}
-use lib.Dec.{eqb, ltb}
-use lib.IntN.{ℤ, pos, negsuc}
+use lib.Dec.{eqb}
 use Rattle.base.specs.Lists.{any, keep, joinAll, orElse}
+use Rattle.text.specs.Decimal.{decimal, line}
 use Rattle.wire.specs.Payment.{Payment, mostHousehold}
 use Rattle.model.specs.Table.{Statement, statements}
 use Rattle.model.specs.Reach.{reached}
 use Rattle.model.specs.Totals.{paymentsIn, readable, totalOf, sumOf}
 use Rattle.model.specs.Snapshot.{load}
-
--- n in decimal digits, the highest first; the count bounds how many
-unfoldable pub decimalOf : ℕ → ℕ → List ℕ
-decimalOf zero n = []
-decimalOf (suc f) n = cond (ltb n 10) ((48 + n) ∷ []) (decimalOf f (n / 10) ++ ((48 + n % 10) ∷ []))
-
-abbrev pub decimal : ℕ → List ℕ
-decimal n = decimalOf (suc n) n
-
--- a minus sign before the digits of a number below zero
-unfoldable pub signed : ℤ → List ℕ
-signed (pos n) = decimal n
-signed (negsuc n) = 45 ∷ decimal (suc n)
 
 -- "household total", "all", "refused"
 abbrev pub heading : List ℕ
@@ -35,10 +21,6 @@ allName = 97 ∷ 108 ∷ 108 ∷ []
 
 abbrev pub refusedLine : List ℕ
 refusedLine = 114 ∷ 101 ∷ 102 ∷ 117 ∷ 115 ∷ 101 ∷ 100 ∷ 10 ∷ []
-
--- "(number, cents)", a line
-abbrev pub line : List ℕ → ℤ → List ℕ
-line name v = name ++ (32 ∷ (signed v ++ (10 ∷ [])))
 
 -- 1 to n
 unfoldable pub upTo : ℕ → List ℕ

@@ -1,4 +1,4 @@
--- What the steps of the report leave: text at a place of the room, and a sum and a mark for each household. Assumes nothing.
+-- What the steps of the report leave: a sum and a mark for each household. Assumes nothing.
 use mathlib.Core.Path.{_≡_}
 use mathlib.Core.Bool.{Bool, true, false, cond, _||_}
 use mathlib.Core.List.{List, map}
@@ -9,7 +9,6 @@ use lib.Dec.{eqb}
 use lib.IntN.{ℤ, pos, _+ℤ_}
 use lib.Signed.{mag}
 use Rattle.base.specs.Lists.{any, keep, joinAll}
-use Rattle.base.specs.Memory.{written}
 use Rattle.wire.specs.Payment.{Payment, amountLimit, mostHousehold, readPayment}
 use Rattle.model.specs.Figures.{tableBytes}
 use Rattle.model.specs.Table.{Statement, statements}
@@ -18,12 +17,8 @@ use Rattle.model.specs.Snapshot.{Snapshot, load}
 use Rattle.model.specs.Totals.{paymentsIn, readable, totalOf}
 use Rattle.table.specs.declared.Table.{Table}
 use Rattle.table.specs.View.{view, Kept, Lays}
-use Rattle.report.specs.Report.{decimal, line, upTo}
-
--- the text s stands at place `at` of the room, r is the place after it, and every other byte stays
-pub record Put (s room : List ℕ) (at : ℕ) (room′ : List ℕ) (r : ℕ) : Type 0 where
-  pub there : room′ ≡ written room at s
-  pub next : r ≡ at + length s
+use Rattle.text.specs.Decimal.{decimal, line}
+use Rattle.report.specs.Report.{upTo}
 
 -- ---- a sum and a mark for each household, at the place of its number
 

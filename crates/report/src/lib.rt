@@ -1,24 +1,40 @@
 // The treasurer's report: a saved snapshot's totals as text.
 pub mod sums;
-pub mod text;
 
 use crate::sums::sum_up;
-use crate::text::put_household;
-use crate::text::put_line;
 use accounts::totals::Whose;
 use accounts::totals::tally;
 use base::memory::store;
+use model::figures::MOST_HOUSEHOLD;
+use model::figures::MOST_NODES;
 use reach::reach;
 use snapshot::load::load;
 use table::Table;
+use text::numbers::put_cents;
+use text::numbers::put_decimal;
+use text::numbers::put_line;
 ghost use Prim.Native.Nat.{_+_, _≤_};
 ghost use lib.ListN.{length};
 ghost use Rattle.base.specs.Lists.{keepBy};
 ghost use Rattle.model.specs.Figures.{tableBytes};
 ghost use Rattle.model.specs.Table.{statements};
 ghost use Rattle.table.specs.View.{view, Kept, AllGood};
+ghost use Rattle.text.specs.Decimal.{decimal, line};
+ghost use Rattle.text.specs.Room.{Put};
 ghost use Rattle.report.specs.Report.{report, reportBytes, PrintedTo};
-ghost use Rattle.report.specs.Steps.{Put, Wide, Behind, SumsAre, Lent, households, lines};
+ghost use Rattle.report.specs.Steps.{Wide, Behind, SumsAre, Lent, households, lines};
+
+// The line of a household.
+fn put_household(room: &mut [u8], at: usize, household: usize, v: i64) -> usize
+    requires { ⌜ at + length (line (decimal household) v) ≤ length (now room) ⌝ }
+    ensures { λ r. ⌜ Put (line (decimal household) v) (now (room .entry)) at (now (room .exit)) r ⌝ }
+{
+    let e = put_decimal(room, at, household as u64);
+    put_cents(room, e, v)
+}
+
+// The highest household, as a place in the lent sums.
+const LAST_HOUSEHOLD: usize = MOST_HOUSEHOLD as usize;
 
 // A line for each household that paid, ascending.
 fn put_lines(sums: &[i64], paid: &[bool], room: &mut [u8], at: usize) -> usize
@@ -27,7 +43,7 @@ fn put_lines(sums: &[i64], paid: &[bool], room: &mut [u8], at: usize) -> usize
 {
     let mut e = at;
     let mut h: usize = 0;
-    while h < 9999 {
+    while h < LAST_HOUSEHOLD {
         h += 1;
         if paid[h] {
             e = put_household(room, e, h, sums[h]);
@@ -40,7 +56,7 @@ fn put_lines(sums: &[i64], paid: &[bool], room: &mut [u8], at: usize) -> usize
 fn put_report(
     t: Table,
     mem: &[u8],
-    marks: [bool; 32],
+    marks: [bool; MOST_NODES],
     sums: &mut [i64],
     paid: &mut [bool],
     room: &mut [u8],

@@ -1,4 +1,6 @@
 // A sum and a mark for each household, filled from the payments of the reachable nodes.
+use model::figures::MOST_HOUSEHOLD;
+use model::figures::MOST_NODES;
 use table::Table;
 use table::data_of;
 use wire::payment::Paid;
@@ -17,7 +19,7 @@ ghost use Rattle.accounts.specs.Tallied.{mostPayments, publishing};
 ghost use Rattle.report.specs.Steps.{Wide, Small, Behind, Cleared, pays, Added, SumsGrow, SumsAre};
 
 // Numbers 0 to the highest household: a place for each in the lent sums.
-pub const HOUSEHOLDS: usize = 10000;
+pub const HOUSEHOLDS: usize = MOST_HOUSEHOLD as usize + 1;
 
 // No household has paid.
 fn clear(sums: &mut [i64], paid: &mut [bool])
@@ -70,7 +72,7 @@ fn add_data(sums: &mut [i64], paid: &mut [bool], nd: &[u8])
 }
 
 // The sums over the marked nodes.
-pub fn sum_up(t: Table, mem: &[u8], marks: [bool; 32], sums: &mut [i64], paid: &mut [bool])
+pub fn sum_up(t: Table, mem: &[u8], marks: [bool; MOST_NODES], sums: &mut [i64], paid: &mut [bool])
     requires { ⌜ Kept t (now mem) × (AllGood (view t (now mem)) × Wide (now sums) (now paid)) ⌝ }
     ensures { λ r. ⌜ SumsAre (statements (keepBy marks (view t (now (mem .entry))))) (now (sums .exit)) (now (paid .exit)) × Behind (now (sums .entry)) (now (paid .entry)) (now (sums .exit)) (now (paid .exit)) ⌝ }
 {

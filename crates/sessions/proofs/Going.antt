@@ -20,9 +20,9 @@ use Rattle.model.specs.Pay.{refusalPay, pay, refusalPurge, purge}
 use Rattle.model.specs.Tick.{Sent as ModelSent, refusalTick, tick}
 use Rattle.model.specs.Receive.{Call, Answer as ModelAnswer, refusalReceive, receive}
 use Rattle.node.specs.declared.State.{State}
-use Rattle.ledger.specs.declared.answers.Done.{Done}
-use Rattle.ledger.specs.declared.answers.Sent.{Sent}
-use Rattle.ledger.specs.declared.answers.Answer.{Answer}
+use Rattle.node.specs.declared.answers.Done.{Done}
+use Rattle.node.specs.declared.answers.Sent.{Sent}
+use Rattle.node.specs.declared.answers.Answer.{Answer}
 use Rattle.ledger.specs.Promises.{Changes, Sends, Answers}
 use Rattle.ledger.proofs.Left.{none-first, not-small, start-accepted, table-accepted, endpoint-accepted}
 use Rattle.sessions.specs.Kept.{Goes}

@@ -6,15 +6,7 @@ use lib.ListN.{length}
 use Rattle.model.specs.Figures.{tableBytes}
 use Rattle.node.specs.declared.State.{State}
 use Rattle.ledger.specs.Promises.{AsLeft}
-use Rattle.sessions.specs.declared.input.Next.{Next}
 use Rattle.sessions.specs.declared.session.Session.{Session}
-
--- a line, and what is left, lie within a window of n bytes
-pub record Taken (n : ℕ) (r : Next) : Type 0 where
-  pub line : r .at ≤ r .stop
-  pub within : r .stop ≤ n
-  pub rest : r .from ≤ r .end
-  pub filled : r .end ≤ n
 
 -- A call on the memory m has left the memory m′ and the state r: the premise again, and nothing has changed where the memory is too small for any call.
 pub record Goes (s : State) (m : List ℕ) (r : State) (m′ : List ℕ) : Type 0 where

@@ -1,22 +1,28 @@
 // The line `totals`: what the program of that name prints for a snapshot.
-use crate::hexadecimal::decode;
-use crate::output::text;
-use crate::words::word;
+use console::output::write;
+use report::sums::HOUSEHOLDS;
+ghost use mathlib.Core.Path.{_≡_};
+ghost use lib.ListN.{length};
 
-fn print(bytes: &[u8]) {
-    let mut mem = [0u8; 32768];
-    let mut sums = [0i64; 10000];
-    let mut paid = [false; 10000];
-    let mut room = [0u8; 131072];
-    let n = report::report(bytes, &mut mem, &mut sums, &mut paid, &mut room);
-    text(&room[..n]);
+// A sum for each household.
+fn sums_buffer() -> [i64; HOUSEHOLDS]
+    ensures { λ r. ⌜ 10000 ≡ length r ⌝ }
+{
+    [0; HOUSEHOLDS]
 }
 
-pub fn totals(line: &mut [u8]) {
-    let p = word(line, 1);
-    let start = p.start;
-    let end = p.end;
-    let n = decode(&mut line[start..end]);
-    let stop = start + n;
-    print(&line[start..stop]);
+// A mark for each household.
+fn marks_buffer() -> [bool; HOUSEHOLDS]
+    ensures { λ r. ⌜ 10000 ≡ length r ⌝ }
+{
+    [false; HOUSEHOLDS]
+}
+
+pub fn totals(bytes: &[u8]) {
+    let mut mem = io::large_buffer();
+    let mut sums = sums_buffer();
+    let mut paid = marks_buffer();
+    let mut room = console::input::window_buffer();
+    let n = report::report(bytes, &mut mem, &mut sums, &mut paid, &mut room);
+    write(&room[..n]);
 }

@@ -1,15 +1,11 @@
 // Calls that change state: each prints its answer and returns the state after it.
-use crate::fields::randoms;
-use crate::fields::small;
-use crate::hexadecimal::decode;
-use crate::output::end;
-use crate::output::labelled_bytes;
-use crate::output::labelled_size;
-use crate::output::labelled_word;
-use crate::words::word;
+use console::output::line;
+use console::output::line_of_bytes;
 use ledger::change;
+use listing::answers;
 use node::State;
-use wire::order::is_same;
+use text::forms::four;
+use text::forms::small;
 use wire::payment::unfold;
 ghost use Prim.Native.Nat.{_≤_};
 ghost use Rattle.ledger.specs.Promises.{AsLeft};
@@ -20,9 +16,8 @@ fn begin(s: State, mem: &[u8], v: [u64; 8]) -> State
     requires { ⌜ AsLeft s (now mem) ⌝ }
     ensures { λ r. ⌜ Goes s (now (mem .entry)) r (now (mem .entry)) ⌝ }
 {
-    let a = change::begin(s, mem, small(v[0]), v[1], randoms(v, 2));
-    labelled_word(b"begin ", a.number);
-    end();
+    let a = change::pingvratha_begin(s, mem, small(v[0]), v[1], &four(v, 2));
+    line(b"begin ", a.number);
     a.state
 }
 
@@ -31,48 +26,29 @@ fn resume_from(s: State, mem: &mut [u8], bytes: &[u8], v: [u64; 8]) -> State
     requires { ⌜ AsLeft s (now mem) ⌝ }
     ensures { λ r. ⌜ Goes s (now (mem .entry)) r (now (mem .exit)) ⌝ }
 {
-    let a = change::resume(s, mem, bytes, v[0], randoms(v, 1));
-    labelled_word(b"resume ", a.number);
-    end();
+    let a = change::pingvratha_resume(s, mem, bytes, v[0], &four(v, 1));
+    line(b"resume ", a.number);
     a.state
 }
 
 // The snapshot is what the line gives, or the last accepted save.
-fn resume(s: State, mem: &mut [u8], saved: &[u8], line: &mut [u8], v: [u64; 8]) -> State
+fn resume(s: State, mem: &mut [u8], saved: &[u8], bytes: &[u8], v: [u64; 8]) -> State
     requires { ⌜ AsLeft s (now mem) ⌝ }
     ensures { λ r. ⌜ Goes s (now (mem .entry)) r (now (mem .exit)) ⌝ }
 {
-    let p = word(line, 6);
-    let start = p.start;
-    let end = p.end;
-    if is_same(&line[start..end], b"last") {
+    if v[5] == 1 {
         return resume_from(s, mem, saved, v);
     }
-    let n = decode(&mut line[start..end]);
-    let stop = start + n;
-    resume_from(s, mem, &line[start..stop], v)
-}
-
-// The datagram is what the line gives.
-fn receive(s: State, mem: &mut [u8], reply: usize, line: &mut [u8], v: [u64; 8]) -> State
-    requires { ⌜ AsLeft s (now mem) × (reply ≤ 5000) ⌝ }
-    ensures { λ r. ⌜ Goes s (now (mem .entry)) r (now (mem .exit)) ⌝ }
-{
-    let p = word(line, 8);
-    let start = p.start;
-    let end = p.end;
-    let n = decode(&mut line[start..end]);
-    let stop = start + n;
-    received(s, mem, reply, &line[start..stop], v)
+    resume_from(s, mem, bytes, v)
 }
 
 // A datagram came in.
-fn received(s: State, mem: &mut [u8], reply: usize, datagram: &[u8], v: [u64; 8]) -> State
+fn receive(s: State, mem: &mut [u8], reply: usize, datagram: &[u8], v: [u64; 8]) -> State
     requires { ⌜ AsLeft s (now mem) × (reply ≤ 5000) ⌝ }
     ensures { λ r. ⌜ Goes s (now (mem .entry)) r (now (mem .exit)) ⌝ }
 {
     let mut room = io::large_buffer();
-    let a = change::receive(
+    let a = change::pingvratha_receive(
         s,
         mem,
         &mut room[..reply],
@@ -80,15 +56,10 @@ fn received(s: State, mem: &mut [u8], reply: usize, datagram: &[u8], v: [u64; 8]
         v[0],
         small(v[1]),
         v[2] == 1,
-        randoms(v, 3),
+        &four(v, 3),
     );
     let n = a.length;
-    labelled_word(b"receive ", a.number);
-    labelled_size(b" ", n);
-    labelled_word(b" ", a.omitted);
-    labelled_word(b" ", a.dropped);
-    labelled_bytes(b" ", &room[..n]);
-    end();
+    answers::received(a.number, a.omitted, a.dropped, &room[..n]);
     a.state
 }
 
@@ -98,12 +69,9 @@ fn tick(s: State, mem: &mut [u8], reply: usize, v: [u64; 8]) -> State
     ensures { λ r. ⌜ Goes s (now (mem .entry)) r (now (mem .exit)) ⌝ }
 {
     let mut room = io::large_buffer();
-    let a = change::tick(s, mem, &mut room[..reply], v[0], small(v[1]), randoms(v, 2));
+    let a = change::pingvratha_tick(s, mem, &mut room[..reply], v[0], small(v[1]), &four(v, 2));
     let n = a.length;
-    labelled_word(b"tick ", a.number);
-    labelled_size(b" ", n);
-    labelled_bytes(b" ", &room[..n]);
-    end();
+    line_of_bytes(b"tick ", a.number, &room[..n]);
     a.state
 }
 
@@ -113,17 +81,8 @@ fn pay(s: State, mem: &mut [u8], v: [u64; 8]) -> State
     ensures { λ r. ⌜ Goes s (now (mem .entry)) r (now (mem .exit)) ⌝ }
 {
     let amount = unfold(small(v[3]));
-    let a = change::pay(
-        s,
-        mem,
-        v[0],
-        small(v[1]),
-        small(v[2]),
-        amount,
-        randoms(v, 4),
-    );
-    labelled_word(b"pay ", a.number);
-    end();
+    let a = change::pingvratha_pay(s, mem, v[0], small(v[1]), small(v[2]), amount, &four(v, 4));
+    line(b"pay ", a.number);
     a.state
 }
 
@@ -132,9 +91,8 @@ fn purge(s: State, mem: &[u8], v: [u64; 8]) -> State
     requires { ⌜ AsLeft s (now mem) ⌝ }
     ensures { λ r. ⌜ Goes s (now (mem .entry)) r (now (mem .entry)) ⌝ }
 {
-    let a = change::purge(s, mem, v[0], randoms(v, 1));
-    labelled_word(b"purge ", a.number);
-    end();
+    let a = change::pingvratha_purge(s, mem, v[0], &four(v, 1));
+    line(b"purge ", a.number);
     a.state
 }
 
@@ -145,7 +103,7 @@ pub fn change(
     mem: &mut [u8],
     reply: usize,
     saved: &[u8],
-    line: &mut [u8],
+    bytes: &[u8],
     v: [u64; 8],
 ) -> State
     requires { ⌜ AsLeft s (now mem) × (reply ≤ 5000) ⌝ }
@@ -153,8 +111,8 @@ pub fn change(
 {
     match which {
         0 => begin(s, mem, v),
-        1 => resume(s, mem, saved, line, v),
-        2 => receive(s, mem, reply, line, v),
+        1 => resume(s, mem, saved, bytes, v),
+        2 => receive(s, mem, reply, bytes, v),
         3 => tick(s, mem, reply, v),
         4 => pay(s, mem, v),
         _ => purge(s, mem, v),

@@ -3,19 +3,13 @@
 // are at first. Its file `stdout` is what the reference writes for that.
 mod book;
 mod changing;
-mod fields;
-mod hexadecimal;
-mod input;
-mod output;
 mod session;
 mod showing;
-mod states;
-mod words;
 
-use input::next_line;
+use console::input::next_line;
+use console::input::window_buffer;
 use session::first;
 use session::step;
-ghost use mathlib.Core.Path.{_≡_};
 ghost use Prim.Native.Nat.{_≤_};
 ghost use lib.ListN.{length};
 
@@ -42,13 +36,7 @@ fn run(window: &mut [u8], mem: &mut [u8], saved: &mut [u8])
     }
 }
 
-// Room for the longest line that is not cut: a snapshot of 33,319 bytes takes 66,638 digits.
-fn window_buffer() -> [u8; 131072]
-    ensures { λ r. ⌜ 131072 ≡ length r ⌝ }
-{
-    [0; 131072]
-}
-
+// The window has room for the longest line that is not cut: a snapshot of 33,319 bytes takes 66,638 digits.
 fn main() {
     let mut window = window_buffer();
     let mut mem = io::large_buffer();

@@ -1,34 +1,35 @@
 // A session: the node's state, the lengths of what is lent, and the last accepted save.
 use crate::book::totals;
 use crate::changing::change;
-use crate::fields::read;
-use crate::output::text;
 use crate::showing::save;
 use crate::showing::tell;
-use crate::states::state;
-use crate::words::first_among;
 use base::memory::copy;
-use ledger::blank::blank;
+use console::output::write;
+use ledger::blank::pingvratha_blank;
+use listing::states::state;
+use model::figures::MOST_BYTES;
+use model::figures::SNAPSHOT_BYTES;
+use model::figures::TABLE_BYTES;
 use node::State;
+use text::forms::Line;
+use text::forms::read_line;
 ghost use mathlib.Core.Path.{_≡_};
+ghost use mathlib.Core.Bool.{true};
 ghost use mathlib.Core.List.{List};
 ghost use Prim.Native.Nat.{ℕ, _≤_};
 ghost use lib.ListN.{length};
+ghost use Rattle.ledger.specs.Promises.{AsLeft};
 ghost use Rattle.sessions.specs.Kept.{Running};
 
-// Places among the names of lines: calls that change state stand below CHANGING, those that sum or show below SHOWING, then `save`, `rooms`, `state`
-// and `totals`.
+// Places among the names of lines: calls that change state stand below CHANGING, then `save` and `rooms`; those that print alone from PRINTING on, first
+// calls that sum or show, then `state` and `totals`.
 const CHANGING: usize = 6;
 
-const SHOWING: usize = 10;
+const SAVE: usize = 6;
 
-const SAVE: usize = 10;
+const PRINTING: usize = 8;
 
-const ROOMS: usize = 11;
-
-const TOTALS: usize = 13;
-
-const NAMES: usize = 14;
+const STATE: usize = 12;
 
 // `saved` bytes are those of the last accepted save.
 pub struct Session {
@@ -44,42 +45,39 @@ pub fn first() -> Session
     ensures { λ r. ⌜ ((m k : List ℕ) → 40000 ≤ length m → 40000 ≤ length k → Running r m k) ⌝ }
 {
     Session {
-        state: blank(),
-        table: 32768,
-        reply: 4096,
-        snapshot: 33319,
+        state: pingvratha_blank(),
+        table: TABLE_BYTES,
+        reply: MOST_BYTES,
+        snapshot: SNAPSHOT_BYTES,
         saved: 0,
     }
 }
 
-// A line that is of no form.
-fn refused(x: Session) -> Session
-    ensures { λ r. ⌜ r ≡ x ⌝ }
+// The lengths are at most 40000, 5000 and 40000.
+fn are_rooms(table: u64, reply: u64, snapshot: u64) -> bool
+    ensures { λ r. ⌜ (r ≡ true → (table ≤ 40000) × ((reply ≤ 5000) × (snapshot ≤ 40000))) ⌝ }
 {
-    text(b"bad line\n");
-    x
+    if 40000 < table {
+        return false;
+    }
+    if 5000 < reply {
+        return false;
+    }
+    snapshot <= 40000
 }
 
-// The lengths of what is lent, at most 40000, 5000 and 40000.
+// The lengths of what is lent.
 fn rooms(x: Session, v: [u64; 8]) -> Session
     ensures { λ r. ⌜ ((m k : List ℕ) → Running x m k → Running r m k) ⌝ }
 {
-    let table = v[0];
-    let reply = v[1];
-    let snapshot = v[2];
-    if 40000 < table {
-        return refused(x);
-    }
-    if 5000 < reply {
-        return refused(x);
-    }
-    if 40000 < snapshot {
-        return refused(x);
+    if !are_rooms(v[0], v[1], v[2]) {
+        write(b"bad line\n");
+        return x;
     }
     let mut r = x;
-    r.table = table as usize;
-    r.reply = reply as usize;
-    r.snapshot = snapshot as usize;
+    r.table = v[0] as usize;
+    r.reply = v[1] as usize;
+    r.snapshot = v[2] as usize;
     r
 }
 
@@ -102,59 +100,80 @@ fn saving(x: Session, mem: &[u8], saved: &mut [u8], clock: u64) -> Session
     r
 }
 
-// One line: the forms stand in the order of the names, a letter for each word behind the name.
+// What the line says: the forms stand in the order of the names.
+fn said(line: &mut [u8]) -> Line
+    ensures { λ r. ⌜ (r .start ≤ r .end) × (r .end ≤ length (now (line .entry))) ⌝ }
+{
+    let names = b"begin resume receive tick pay purge save rooms total sum marks show state totals";
+    let forms = b"ncnnnn cnnnns cnknnnnh cnnnnn cnnannnn cnnnn c ccc cn c c n  h";
+    read_line(line, names, forms)
+}
+
+// One line.
 pub fn step(x: Session, mem: &mut [u8], saved: &mut [u8], line: &mut [u8]) -> Session
     requires { ⌜ Running x (now mem) (now saved) ⌝ }
     ensures { λ r. ⌜ Running r (now (mem .exit)) (now (saved .exit)) ⌝ }
 {
-    let names = b"begin resume receive tick pay purge total sum marks show save rooms state totals";
-    let forms = b"ncnnnn cnnnns cnknnnnh cnnnnn cnnannnn cnnnn cn c c n c ccc  h";
-    let which = first_among(names, line);
-    let f = read(line, forms, which);
-    if which == NAMES {
-        return refused(x);
-    }
-    if !f.ok {
-        return refused(x);
-    }
-    if which == TOTALS {
-        totals(line);
+    let l = said(line);
+    if !l.ok {
+        write(b"bad line\n");
         return x;
     }
-    let v = f.values;
-    run(which, x, mem, saved, line, v)
+    let start = l.start;
+    let end = l.end;
+    let v = l.values;
+    run(l.which, x, mem, saved, &line[start..end], v)
 }
 
-// The line at the place `which` among the names, with the values v behind its name.
+// The line at the place `which` among the names.
 fn run(
     which: usize,
     x: Session,
     mem: &mut [u8],
     saved: &mut [u8],
-    line: &mut [u8],
+    bytes: &[u8],
     v: [u64; 8],
 ) -> Session
     requires { ⌜ Running x (now mem) (now saved) ⌝ }
     ensures { λ r. ⌜ Running r (now (mem .exit)) (now (saved .exit)) ⌝ }
 {
     let t = x.table;
-    let n = x.saved;
     if which < CHANGING {
-        let s = change(which, x.state, &mut mem[..t], x.reply, &saved[..n], line, v);
+        let n = x.saved;
+        let s = change(
+            which,
+            x.state,
+            &mut mem[..t],
+            x.reply,
+            &saved[..n],
+            bytes,
+            v,
+        );
         let mut r = x;
         r.state = s;
         return r;
     }
-    if which < SHOWING {
-        tell(which, x.state, &mem[..t], v);
-        return x;
-    }
     if which == SAVE {
         return saving(x, mem, saved, v[0]);
     }
-    if which == ROOMS {
+    if which < PRINTING {
         return rooms(x, v);
     }
-    state(x.state, mem);
+    print(which, x.state, mem, t, bytes, v);
     x
+}
+
+// A line that prints alone: calls are lent the first t bytes of the table memory.
+fn print(which: usize, s: State, mem: &[u8], t: usize, bytes: &[u8], v: [u64; 8])
+    requires { ⌜ AsLeft s (now mem) × ((t ≤ length (now mem)) × (40000 ≤ length (now mem))) ⌝ }
+{
+    if which < STATE {
+        tell(which, s, &mem[..t], v);
+        return;
+    }
+    if which == STATE {
+        state(s, mem);
+        return;
+    }
+    totals(bytes);
 }

@@ -45,20 +45,17 @@ pub short-age : (age cap : ℕ) → cap ≡ min age mostAge → length (groups c
 short-age age cap e = groups-length 4 cap (omega arith)
 
 -- what the code writes of the entry r, whose data are the bytes, and where it ends
-module _ (r : Meta) (bytes : List ℕ) (clock at : ℕ) (d d1 d2 d3 d4 d5 : List ℕ) (a1 a2 a3 a4 age cap : ℕ)
+module _ (r : Meta) (bytes : List ℕ) (clock at : ℕ) (d d1 d2 d3 d4 d5 : List ℕ) (a1 a2 a3 a4 cap : ℕ)
     (e1 : d1 ≡ written d at (groups (r .id))) (q1 : a1 ≡ at + length (groups (r .id)))
     (e2 : d2 ≡ written d1 a1 (groups (r .seq))) (q2 : a2 ≡ a1 + length (groups (r .seq)))
-    (old : age ≡ r .age + (clock - r .since)) (most : cap ≡ min age mostAge)
+    (most : cap ≡ min (r .age + (clock - r .since)) mostAge)
     (e3 : d3 ≡ written d2 a2 (groups cap)) (q3 : a3 ≡ a2 + length (groups cap))
     (e4 : d4 ≡ written d3 a3 (groups (r .len))) (q4 : a4 ≡ a3 + length (groups (r .len)))
     (size : r .len ≡ length bytes) (e5 : d5 ≡ written d4 a4 bytes) (fits : a4 + length bytes ≤ length d) where
-  capped-age : cap ≡ min (r .age + (clock - r .since)) mostAge
-  capped-age = most ∙ ap (λ (n : ℕ). min n mostAge) old
-
   pub meta-saved : (d5 ≡ written d at (saveEntry clock (entryWith r bytes))) × (a4 + length bytes ≡ at + length (saveEntry clock (entryWith r bytes)))
   meta-saved = (
-    entry-put d at clock (entryWith r bytes) d1 d2 d3 d4 d5 a1 a2 a3 a4 e1 q1 e2 q2 (rw capped-age at e3) (rw capped-age at q3) (rw size at e4) (rw size at q4) e5 fits,
-    entry-end d at clock (entryWith r bytes) d1 d2 d3 d4 d5 a1 a2 a3 a4 e1 q1 e2 q2 (rw capped-age at e3) (rw capped-age at q3) (rw size at e4) (rw size at q4) e5 fits,
+    entry-put d at clock (entryWith r bytes) d1 d2 d3 d4 d5 a1 a2 a3 a4 e1 q1 e2 q2 (rw most at e3) (rw most at q3) (rw size at e4) (rw size at q4) e5 fits,
+    entry-end d at clock (entryWith r bytes) d1 d2 d3 d4 d5 a1 a2 a3 a4 e1 q1 e2 q2 (rw most at e3) (rw most at q3) (rw size at e4) (rw size at q4) e5 fits,
   )
 
 -- the entry at place i of the table

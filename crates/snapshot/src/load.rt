@@ -80,17 +80,7 @@ fn fill(s: &[u8], at: usize, count: usize, mem: &mut [u8], clock: u64) -> Table
         };
         let end = start + size;
         let bytes = &s[start..end];
-        t = table::insert(
-            t,
-            mem,
-            k,
-            node,
-            seq,
-            age as u64,
-            clock,
-            hash16(bytes),
-            bytes,
-        );
+        t = table::insert(t, mem, k, node, seq, age, clock, hash16(bytes), bytes);
         low = node as u64 + 1;
         place = end;
         k += 1;

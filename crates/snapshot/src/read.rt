@@ -1,4 +1,7 @@
 // Reading a snapshot's numbers: the head, and one entry.
+use model::figures::DATA_LIMIT;
+use model::figures::MOST_AGE;
+use model::figures::MOST_NODES;
 use wire::groups::Groups;
 use wire::groups::read_groups;
 use wire::order::is_good;
@@ -6,6 +9,11 @@ ghost use Prim.Native.Nat.{_≤_};
 ghost use lib.ListN.{length};
 ghost use Rattle.snapshot.specs.Answers.{ReadEntry, ReadHead};
 ghost use Rattle.snapshot.specs.Numbers.{ReadNumbers};
+
+// The figures as numbers that are read.
+const MOST_SIZE: u64 = DATA_LIMIT as u64;
+
+const MOST_ENTRIES: u64 = MOST_NODES as u64;
 
 // The numbers before an entry's data, and the place after them.
 pub enum NumbersRead {
@@ -60,7 +68,7 @@ fn numbers_at(s: &[u8], at: usize, low: u64) -> NumbersRead
     else {
         return NumbersRead::NoNumbers;
     };
-    let third = read_groups(s, b, 4294967295);
+    let third = read_groups(s, b, MOST_AGE);
     let Groups::Value { number: age, next } = third else {
         return NumbersRead::NoNumbers;
     };
@@ -87,7 +95,7 @@ pub fn entry_at(s: &[u8], at: usize, low: u64) -> EntryRead
     else {
         return EntryRead::NoEntry;
     };
-    let last = read_groups(s, next, 1024);
+    let last = read_groups(s, next, MOST_SIZE);
     let Groups::Value {
         number,
         next: start,
@@ -100,7 +108,7 @@ pub fn entry_at(s: &[u8], at: usize, low: u64) -> EntryRead
         return EntryRead::NoEntry;
     }
     let end = start + size;
-    if !is_good(&s[start..end], 1024) {
+    if !is_good(&s[start..end], DATA_LIMIT) {
         return EntryRead::NoEntry;
     }
     EntryRead::Whole {
@@ -135,7 +143,7 @@ pub fn head_of(s: &[u8]) -> HeadRead
     else {
         return HeadRead::NoHead;
     };
-    let third = read_groups(s, b, 32);
+    let third = read_groups(s, b, MOST_ENTRIES);
     let Groups::Value {
         number: count,
         next,

@@ -1,39 +1,19 @@
 // Saving: edition, own identifier, count, then each node ascending.
 use base::memory::store;
 use table::Entry;
-use table::SLOT;
 use table::Table;
-use table::age_at;
+use table::bytes_of;
+use table::capped_age;
 use wire::groups::put_groups;
 ghost use mathlib.Core.Path.{_≡_};
-ghost use Prim.Native.Nat.{_+_, _≤_, min};
+ghost use Prim.Native.Nat.{_+_, _≤_};
 ghost use lib.ListN.{length};
 ghost use Rattle.base.specs.Memory.{written};
-ghost use Rattle.model.specs.Figures.{tableBytes, snapshotBytes, lastReading, mostAge};
+ghost use Rattle.model.specs.Figures.{snapshotBytes, lastReading};
 ghost use Rattle.model.specs.Snapshot.{saveEntry, saved};
 ghost use Rattle.model.specs.Invariant.{EntryFits, TableFits};
-ghost use Rattle.table.specs.View.{dataOf, view, FitMeta, Kept, entryWith};
+ghost use Rattle.table.specs.View.{view, Kept, entryWith};
 ghost use Rattle.snapshot.specs.Answers.{SavedTo};
-
-// An age as it is saved: at most 2^32 - 1.
-fn capped(age: u64) -> u64
-    ensures { λ r. ⌜ r ≡ min age mostAge ⌝ }
-{
-    if 4294967295 < age {
-        return 4294967295;
-    }
-    age
-}
-
-// The data of the entry e, as a part of the memory.
-fn bytes_of<'a>(e: Entry, mem: &'a [u8]) -> &'a [u8]
-    requires { ⌜ FitMeta e × (tableBytes ≤ length (now mem)) ⌝ }
-    ensures { λ r. ⌜ now r ≡ dataOf (now (mem .entry)) e ⌝ }
-{
-    let a = e.slot * SLOT;
-    let b = a + e.len;
-    &mem[a..b]
-}
 
 // The node of entry e, whose data are the bytes, to place `at` of the room; the place after it.
 fn save_entry(e: Entry, bytes: &[u8], clock: u64, room: &mut [u8], at: usize) -> usize
@@ -42,7 +22,7 @@ fn save_entry(e: Entry, bytes: &[u8], clock: u64, room: &mut [u8], at: usize) ->
 {
     let a = put_groups(room, at, e.id as u64);
     let b = put_groups(room, a, e.seq as u64);
-    let c = put_groups(room, b, capped(age_at(e, clock)));
+    let c = put_groups(room, b, capped_age(e, clock) as u64);
     let d = put_groups(room, c, e.len as u64);
     store(room, d, bytes);
     d + bytes.len()

@@ -1,4 +1,7 @@
 // Beginning: our node alone.
+use model::figures::LEAST_INTERVAL;
+use model::figures::MOST_ENDPOINTS;
+use model::figures::MOST_PEERS;
 use node::Endpoint;
 use node::State;
 use node::peers::Peer;
@@ -22,13 +25,13 @@ fn fresh_endpoint(clock: u64, random: u32) -> Endpoint
     ensures { λ r. ⌜ endpointOf r ≡ freshEndpoint clock random ⌝ }
 {
     Endpoint {
-        trickle: Trickle::fresh(clock, 200, random),
+        trickle: Trickle::fresh(clock, LEAST_INTERVAL, random),
         next: 0,
     }
 }
 
 // All four.
-fn fresh_endpoints(clock: u64, randoms: [u32; 4]) -> [Endpoint; 4]
+fn fresh_endpoints(clock: u64, randoms: [u32; MOST_ENDPOINTS]) -> [Endpoint; MOST_ENDPOINTS]
     ensures { λ r. ⌜ (length r ≡ 4) × (endpointsOf r ≡ freshEndpoints clock randoms) ⌝ }
 {
     [
@@ -51,12 +54,12 @@ fn no_peers() -> Peers
     };
     Peers {
         count: 0,
-        list: [p; 16],
+        list: [p; MOST_PEERS],
     }
 }
 
 // Our node with a table, its network digest not worked out yet.
-pub fn undigested(own: u32, clock: u64, randoms: [u32; 4], t: Table) -> State
+pub fn undigested(own: u32, clock: u64, randoms: [u32; MOST_ENDPOINTS], t: Table) -> State
     ensures { λ r. ⌜ ((m : List ℕ) → Kept t m → Rep r m × (stateOf r m ≡ undigested own clock randoms (view t m))) × (r .table ≡ t) ⌝ }
 {
     State {
@@ -82,7 +85,7 @@ pub fn with_digest(s: State, mem: &[u8], clock: u64) -> State
 }
 
 // Our node alone: number 0, no data, age 0.
-pub fn begin(own: u32, clock: u64, randoms: [u32; 4], mem: &[u8]) -> State
+pub fn begin(own: u32, clock: u64, randoms: [u32; MOST_ENDPOINTS], mem: &[u8]) -> State
     requires { ⌜ (tableBytes ≤ length (now mem)) × (clock ≤ lastReading) ⌝ }
     ensures { λ r. ⌜ Moved (begun own clock randoms) (now (mem .entry)) r (now (mem .entry)) ⌝ }
 {

@@ -2,8 +2,9 @@
 use crate::begin::undigested;
 use crate::begin::with_digest;
 use crate::links::links_in;
+use model::figures::MOST_ENDPOINTS;
+use model::sequence::advanced;
 use node::State;
-use node::publish::advanced;
 use node::publish::own_data;
 use node::publish::own_seq;
 use node::publish::publish_cut;
@@ -35,7 +36,13 @@ fn republish(s: State, mem: &mut [u8], clock: u64) -> State
 }
 
 // The node of the snapshot in `bytes`, or a refusal that leaves state and table memory as they are.
-pub fn resume(s: State, bytes: &[u8], mem: &mut [u8], clock: u64, randoms: [u32; 4]) -> Resumed
+pub fn resume(
+    s: State,
+    bytes: &[u8],
+    mem: &mut [u8],
+    clock: u64,
+    randoms: [u32; MOST_ENDPOINTS],
+) -> Resumed
     requires { ⌜ (tableBytes ≤ length (now mem)) × (clock ≤ lastReading) ⌝ }
     ensures { λ r. ⌜ ResumedFrom clock (now (bytes .entry)) randoms s (now (mem .entry)) r (now (mem .exit)) ⌝ }
 {

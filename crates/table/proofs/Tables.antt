@@ -315,64 +315,64 @@ meta-read t i k p =
 
 -- ---- what the functions leave
 
-module _ (t r : Table) (m m′ d : List ℕ) (i id seq age since len slot : ℕ) (hash : List ℕ) (k : Kept t m) (l : length d ≤ dataLimit) (n : len ≡ length d) (h : hash ≡ hash16 d) (w : m′ ≡ written m (slot * dataLimit) d) where
+module _ (t r : Table) (m m′ d : List ℕ) (i id seq age since len slot at : ℕ) (hash : List ℕ) (k : Kept t m) (l : length d ≤ dataLimit) (n : len ≡ length d) (h : hash ≡ hash16 d) (a : at ≡ slot * dataLimit) (w : m′ ≡ written m at d) where
   pub replaced : (old : Meta) → Read t i old → slot ≡ old .slot → Stands t id i
-      → r ≡ withMeta t i (record { id = id; seq = seq; age = age; since = since; len = len; slot = slot; hash = hash })
+      → r ≡ withMeta t i (record { id = id; seq = seq; age = age; len = len; slot = slot; since = since; hash = hash })
       → Stored (entryOf id seq d age since) t m i r m′
   replaced old o q s e =
-      rw (w, e) (stored-over t m (record { id = id; seq = seq; age = age; since = since; len = len; slot = slot; hash = hash }) d i k s (q ∙ ap (λ (x : Meta). x .slot) (o .same)) n l h)
+      rw (w, a, e) (stored-over t m (record { id = id; seq = seq; age = age; len = len; slot = slot; since = since; hash = hash }) d i k s (q ∙ ap (λ (x : Meta). x .slot) (o .same)) n l h)
 
   pub added : t .count < 32 → Gap t id i → slot < 32 → Free slot (live t)
-      → r ≡ inserted t i (record { id = id; seq = seq; age = age; since = since; len = len; slot = slot; hash = hash })
+      → r ≡ inserted t i (record { id = id; seq = seq; age = age; len = len; slot = slot; since = since; hash = hash })
       → Stored (entryOf id seq d age since) t m i r m′
-  added p g s f e = rw (w, e) (stored-new t m (record { id = id; seq = seq; age = age; since = since; len = len; slot = slot; hash = hash }) d i k p g s f n l h)
+  added p g s f e = rw (w, a, e) (stored-new t m (record { id = id; seq = seq; age = age; len = len; slot = slot; since = since; hash = hash }) d i k p g s f n l h)
 
 -- data changed in place, and the digest taken from there
-pub edited : (t r : Table) (m m′ : List ℕ) (i id seq since len : ℕ) (hash : List ℕ) (old : Meta) → Kept t m → Stands t id i → Read t i old
-    → hash ≡ hash16 (take (old .slot * dataLimit + len - old .slot * dataLimit) (drop (old .slot * dataLimit) m′))
-    → r ≡ withMeta t i (record { id = id; seq = seq; age = 0; since = since; len = len; slot = old .slot; hash = hash })
+pub edited : (t r : Table) (m m′ : List ℕ) (i id seq since len at : ℕ) (hash : List ℕ) (old : Meta) → Kept t m → Stands t id i → Read t i old → at ≡ old .slot * dataLimit
+    → hash ≡ hash16 (take (at + len - at) (drop at m′))
+    → r ≡ withMeta t i (record { id = id; seq = seq; age = 0; len = len; slot = old .slot; since = since; hash = hash })
     → (d : List ℕ) → length d ≡ len → len ≤ dataLimit → m′ ≡ written m (metaAt t i .slot * dataLimit) d → Stored (entryOf id seq d 0 since) t m i r m′
-edited t r m m′ i id seq since len hash old k s o h e d n l w =
-    let v : m′ ≡ written m (old .slot * dataLimit) d = w ∙ ap (λ (x : Meta). written m (x .slot * dataLimit) d) (sym (o .same)) in
-    replaced t r m m′ d i id seq 0 since len (old .slot) hash k (omega arith) (sym n)
-    (h ∙ ap hash16 (part-there m m′ d (old .slot * dataLimit) (old .slot * dataLimit + len - old .slot * dataLimit) v (omega arith) (omega (arith, o .low, k .room)))) v old o refl s e
+edited t r m m′ i id seq since len at hash old k s o a h e d n l w =
+    let v : m′ ≡ written m at d = w ∙ ap (λ (x : Meta). written m (x .slot * dataLimit) d) (sym (o .same)) ∙ ap (λ (x : ℕ). written m x d) (sym a) in
+    replaced t r m m′ d i id seq 0 since len (old .slot) at hash k (omega arith) (sym n)
+    (h ∙ ap hash16 (part-there m m′ d at (at + len - at) v (omega arith) (omega (arith, o .low, k .room)))) a v old o refl s e
 
 -- bytes put in, or taken out: what is published then
-module _ (t r : Table) (m m′ : List ℕ) (i id seq since p : ℕ) (old : Meta) (k : Kept t m) (o : Read t i old) where
+module _ (t r : Table) (m m′ : List ℕ) (i id seq since p at : ℕ) (old : Meta) (k : Kept t m) (o : Read t i old) (a : at ≡ old .slot * dataLimit) where
   abbrev Publishes : ℕ → Type 0
   Publishes len = (x d : List ℕ) → Kept t x → length d ≡ len → m′ ≡ written x (metaAt t i .slot * dataLimit) d → Stored (entryOf id seq d 0 since) t x i r m′
 
   -- in the terms of the entry that was read
   in-place : (f : List ℕ → List ℕ) (len : ℕ) → length (f (part m (old .slot * dataLimit) (old .len))) ≡ len
-      → m′ ≡ written m (old .slot * dataLimit) (f (part m (old .slot * dataLimit) (old .len))) → Publishes len
+      → m′ ≡ written m at (f (part m at (old .len))) → Publishes len
       → Stored (entryOf id seq (f (dataOf m (metaAt t i))) 0 since) t m i r m′
   in-place f len n w e =
       subst (λ (x : Meta). Stored (entryOf id seq (f (dataOf m x)) 0 since) t m i r m′) (o .same)
-      (e m (f (part m (old .slot * dataLimit) (old .len))) k n (w ∙ ap (λ (x : Meta). written m (x .slot * dataLimit) (f (part m (old .slot * dataLimit) (old .len)))) (o .same)))
+      (e m (f (part m (old .slot * dataLimit) (old .len))) k n
+      (w ∙ ap (λ (x : ℕ). written m x (f (part m x (old .len)))) a ∙ ap (λ (x : Meta). written m (x .slot * dataLimit) (f (part m (old .slot * dataLimit) (old .len)))) (o .same)))
 
-  pub spliced-in : (b : List ℕ) → p ≤ metaAt t i .len → m′ ≡ written m (old .slot * dataLimit) (spliced (part m (old .slot * dataLimit) (old .len)) p b)
+  pub spliced-in : (b : List ℕ) → p ≤ metaAt t i .len → m′ ≡ written m at (spliced (part m at (old .len)) p b)
       → Publishes (old .len + length b) → Stored (entryOf id seq (spliced (dataOf m (metaAt t i)) p b) 0 since) t m i r m′
   spliced-in b q w =
       in-place (λ (d : List ℕ). spliced d p b) (old .len + length b)
       (spliced-length m (old .slot * dataLimit) (old .len) p (omega (arith, o .low, o .short, k .room)) b (omega (arith, o .long))) w
 
-  pub cut-out : (n : ℕ) → p + n ≤ metaAt t i .len → m′ ≡ written m (old .slot * dataLimit) (cut (part m (old .slot * dataLimit) (old .len)) p n)
+  pub cut-out : (n : ℕ) → p + n ≤ metaAt t i .len → m′ ≡ written m at (cut (part m at (old .len)) p n)
       → Publishes (old .len - n) → Stored (entryOf id seq (cut (dataOf m (metaAt t i)) p n) 0 since) t m i r m′
   cut-out n q w =
       in-place (λ (d : List ℕ). cut d p n) (old .len - n)
       (cut-length m (old .slot * dataLimit) (old .len) p (omega (arith, o .low, o .short, k .room)) n (omega (arith, o .long))) w
 
 pub renumbered-by : (t r : Table) (i id seq age since : ℕ) (old : Meta) → Arranged t → Stands t id i → Read t i old
-    → r ≡ withMeta t i (record { id = id; seq = seq; age = age; since = since; len = old .len; slot = old .slot; hash = old .hash }) → Renumbered id seq age since t i r
+    → r ≡ withMeta t i (record { id = id; seq = seq; age = age; len = old .len; slot = old .slot; since = since; hash = old .hash }) → Renumbered id seq age since t i r
 renumbered-by t r i id seq age since old k s o e =
     rw e
-    (renumbered t (record { id = id; seq = seq; age = age; since = since; len = old .len; slot = old .slot; hash = old .hash }) i k s
+    (renumbered t (record { id = id; seq = seq; age = age; len = old .len; slot = old .slot; since = since; hash = old .hash }) i k s
     (ap (λ (x : Meta). x .slot) (o .same)) (ap (λ (x : Meta). x .len) (o .same)) (ap (λ (x : Meta). x .hash) (o .same)))
 
-pub data-read : (t : Table) (m : List ℕ) (i : ℕ) (old : Meta) → Read t i old
-    → (take (old .slot * dataLimit + old .len - old .slot * dataLimit) (drop (old .slot * dataLimit) m) ≡ dataOf m (metaAt t i)) × (old .slot ≡ metaAt t i .slot)
-data-read t m i old o =
-    let e : old .slot * dataLimit + old .len - old .slot * dataLimit ≡ old .len = omega arith in (rw e (ap (dataOf m) (o .same)), ap (λ (x : Meta). x .slot) (o .same))
+-- the part of the memory from where an entry's slot starts
+pub bytes-read : (m : List ℕ) (e : Meta) (at : ℕ) → at ≡ e .slot * dataLimit → take (at + e .len - at) (drop at m) ≡ dataOf m e
+bytes-read m e at a = let n : at + e .len - at ≡ e .len = omega arith in rw (n, a)
 
 pub length-mapped : {X Y : Type 0} (f : X → Y) (l : List X) (n : ℕ) → length (map f l) ≡ n → length l ≡ n
 length-mapped f l n p = sym (length-map l f) ∙ p
@@ -530,8 +530,8 @@ none-held m l h n =
     (record { arranged = record { most = omega arith; wide = n; ascending = tt; fit = tt; apart = tt }; room = h; hashed = tt }, refl)
 
 pub begun : (own clock : ℕ) (hash m : List ℕ) (l : List Meta) → tableBytes ≤ length m → hash ≡ hash16 [] → length l ≡ 31
-    → Kept (record { count = 1; entries = record { id = own; seq = 0; age = 0; since = clock; len = 0; slot = 0; hash = hash } ∷ l }) m
-    × (view (record { count = 1; entries = record { id = own; seq = 0; age = 0; since = clock; len = 0; slot = 0; hash = hash } ∷ l }) m ≡ entryOf own 0 [] 0 clock ∷ [])
+    → Kept (record { count = 1; entries = record { id = own; seq = 0; age = 0; len = 0; slot = 0; since = clock; hash = hash } ∷ l }) m
+    × (view (record { count = 1; entries = record { id = own; seq = 0; age = 0; len = 0; slot = 0; since = clock; hash = hash } ∷ l }) m ≡ entryOf own 0 [] 0 clock ∷ [])
 unfolding view
 begun own clock hash m l r h n =
     (record { arranged = record { most = omega arith; wide = omega arith; ascending = (tt, tt); fit = ((omega arith, omega arith), tt); apart = (tt, tt) }; room = r; hashed = (h, tt) }, refl)

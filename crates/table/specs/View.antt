@@ -18,7 +18,7 @@ use Rattle.table.specs.declared.Found.{Found}
 use Rattle.table.specs.declared.Found.the-variants.{At, Missing}
 
 abbrev pub noMeta : Meta
-noMeta = record { id = 0; seq = 0; age = 0; since = 0; len = 0; slot = 0; hash = [] }
+noMeta = record { id = 0; seq = 0; age = 0; len = 0; slot = 0; since = 0; hash = [] }
 
 abbrev pub metaId : Meta → ℕ
 metaId e = e .id

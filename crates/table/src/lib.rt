@@ -2,30 +2,37 @@
 use base::memory::insert_bytes;
 use base::memory::remove_bytes;
 use base::memory::store;
+use model::figures::DATA_LIMIT;
+use model::figures::MOST_AGE;
+use model::figures::MOST_NODES;
 use sha256::hash16;
 ghost use mathlib.Core.Path.{_≡_};
 ghost use mathlib.Core.Bool.{cond};
 ghost use mathlib.Core.List.{List, _∷_, []};
-ghost use Prim.Native.Nat.{ℕ, _+_, _-_, _*_, _≤_, _<_};
+ghost use Prim.Native.Nat.{ℕ, _+_, _-_, _*_, _≤_, _<_, min};
 ghost use lib.ListN.{length};
 ghost use Rattle.base.specs.Memory.{written, spliced, cut};
 ghost use Rattle.model.specs.Figures.{dataLimit, tableBytes, mostAge, lastReading};
 ghost use Rattle.model.specs.Table.{entryOf};
 ghost use Rattle.sha256.specs.Sha256.{hash16};
-ghost use Rattle.table.specs.View.{view, live, metaAt, dataOf, Free, Arranged, Kept, Stands, Gap, Finding, Read, Stored, Renumbered, Purged, SlotUsed, withMeta, inserted};
+ghost use Rattle.table.specs.View.{view, live, metaAt, dataOf, Free, FitMeta, Arranged, Kept, Stands, Gap, Finding, Read, Stored, Renumbered, Purged, SlotUsed, withMeta, inserted};
 
 // Bytes of a slot: the most that one node publishes.
-pub const SLOT: usize = 1024;
+const SLOT: usize = DATA_LIMIT;
 
-// What is known of a node: its number, its age as taken and the reading then, where its data stands, and the digest of that.
+// Slots: one for each node that can be held.
+const SLOTS: u16 = MOST_NODES as u16;
+
+// What is known of a node: its number, its age as taken, where its data stand, the reading when it was taken, and the digest of the data.
+// 40 bytes with no gap: a state holds 32 of these and is copied whole.
 #[repr(C)]
 pub struct Entry {
     pub id: u32,
     pub seq: u32,
-    pub age: u64,
+    pub age: u32,
+    pub len: u16,
+    pub slot: u16,
     pub since: u64,
-    pub len: usize,
-    pub slot: usize,
     pub hash: [u8; 16],
 }
 
@@ -33,7 +40,7 @@ pub struct Entry {
 #[repr(C)]
 pub struct Table {
     pub count: usize,
-    pub entries: [Entry; 32],
+    pub entries: [Entry; MOST_NODES],
 }
 
 // Where a node stands, or where it would.
@@ -74,10 +81,22 @@ pub fn meta_at(t: Table, i: usize) -> Entry
 
 // The age of a node at a reading.
 pub fn age_at(e: Entry, clock: u64) -> u64
-    requires { ⌜ (e .since ≤ clock) × ((e .age ≤ mostAge) × (clock ≤ lastReading)) ⌝ }
+    requires { ⌜ (e .since ≤ clock) × (clock ≤ lastReading) ⌝ }
     ensures { λ r. ⌜ r ≡ e .age + (clock - e .since) ⌝ }
 {
-    e.age + (clock - e.since)
+    e.age as u64 + (clock - e.since)
+}
+
+// The same as it is sent and saved: at most 2^32 - 1.
+pub fn capped_age(e: Entry, clock: u64) -> u32
+    requires { ⌜ (e .since ≤ clock) × (clock ≤ lastReading) ⌝ }
+    ensures { λ r. ⌜ r ≡ min (e .age + (clock - e .since)) mostAge ⌝ }
+{
+    let age = age_at(e, clock);
+    if MOST_AGE < age {
+        return MOST_AGE as u32;
+    }
+    age as u32
 }
 
 // The table with e at place i.
@@ -113,7 +132,7 @@ fn insert_meta(t: Table, i: usize, e: Entry) -> Table
 // ---- slots
 
 // Some node's data stands in slot s.
-fn slot_used(t: Table, s: usize) -> bool
+fn slot_used(t: Table, s: u16) -> bool
     requires { ⌜ Arranged t ⌝ }
     ensures { λ r. ⌜ SlotUsed t s r ⌝ }
 {
@@ -130,12 +149,12 @@ fn slot_used(t: Table, s: usize) -> bool
 }
 
 // A slot that no node uses: there is one while fewer than 32 are held.
-fn free_slot(t: Table) -> usize
+fn free_slot(t: Table) -> u16
     requires { ⌜ Arranged t × (t .count < 32) ⌝ }
     ensures { λ r. ⌜ (r < 32) × Free r (live t) ⌝ }
 {
     let mut s = 0;
-    while s < 32 {
+    while s < SLOTS {
         let b = slot_used(t, s);
         if !b {
             return s;
@@ -147,15 +166,29 @@ fn free_slot(t: Table) -> usize
 
 // ---- the table with its memory
 
+// Where the slot of the entry e starts in the memory.
+pub fn start_of(e: Entry) -> usize
+    ensures { λ r. ⌜ r ≡ e .slot * dataLimit ⌝ }
+{
+    e.slot as usize * SLOT
+}
+
+// The data of the entry e, as a part of the memory.
+pub fn bytes_of<'a>(e: Entry, mem: &'a [u8]) -> &'a [u8]
+    requires { ⌜ FitMeta e × (tableBytes ≤ length (now mem)) ⌝ }
+    ensures { λ r. ⌜ (now r ≡ dataOf (now (mem .entry)) e) × ((r .ptr .0 ≡ mem .entry .ptr .0) × (r .ptr .1 ≡ e .slot * dataLimit + mem .entry .ptr .1)) ⌝ }
+{
+    let a = start_of(e);
+    let b = a + e.len as usize;
+    &mem[a..b]
+}
+
 // The data of the node at place i, as a part of the memory.
 pub fn data_of<'a>(t: Table, mem: &'a [u8], i: usize) -> &'a [u8]
     requires { ⌜ Kept t (now mem) × (i < t .count) ⌝ }
     ensures { λ r. ⌜ (now r ≡ dataOf (now (mem .entry)) (metaAt t i)) × ((r .ptr .0 ≡ mem .entry .ptr .0) × (r .ptr .1 ≡ metaAt t i .slot * dataLimit + mem .entry .ptr .1)) ⌝ }
 {
-    let e = meta_at(t, i);
-    let a = e.slot * SLOT;
-    let b = a + e.len;
-    &mem[a..b]
+    bytes_of(meta_at(t, i), mem)
 }
 
 // New number, age, reading and data for the node at place i.
@@ -165,7 +198,7 @@ pub fn replace(
     i: usize,
     id: u32,
     seq: u32,
-    age: u64,
+    age: u32,
     clock: u64,
     hash: [u8; 16],
     bytes: &[u8],
@@ -174,23 +207,17 @@ pub fn replace(
     ensures { λ r. ⌜ Stored (entryOf id seq (now (bytes .entry)) age clock) t (now (mem .entry)) i r (now (mem .exit)) ⌝ }
 {
     let old = meta_at(t, i);
-    let slot = old.slot;
-    let at = slot * SLOT;
-    store(mem, at, bytes);
-    let len = bytes.len();
-    with_meta(
-        t,
-        i,
-        Entry {
-            id,
-            seq,
-            age,
-            since: clock,
-            len,
-            slot,
-            hash,
-        },
-    )
+    let e = Entry {
+        id,
+        seq,
+        age,
+        len: bytes.len() as u16,
+        slot: old.slot,
+        since: clock,
+        hash,
+    };
+    store(mem, start_of(e), bytes);
+    with_meta(t, i, e)
 }
 
 // A new node, at its place i.
@@ -200,7 +227,7 @@ pub fn insert(
     i: usize,
     id: u32,
     seq: u32,
-    age: u64,
+    age: u32,
     clock: u64,
     hash: [u8; 16],
     bytes: &[u8],
@@ -208,27 +235,21 @@ pub fn insert(
     requires { ⌜ Kept t (now mem) × ((t .count < 32) × (Gap t id i × ((length (now bytes) ≤ dataLimit) × (hash ≡ hash16 (now bytes))))) ⌝ }
     ensures { λ r. ⌜ Stored (entryOf id seq (now (bytes .entry)) age clock) t (now (mem .entry)) i r (now (mem .exit)) ⌝ }
 {
-    let slot = free_slot(t);
-    let at = slot * SLOT;
-    store(mem, at, bytes);
-    let len = bytes.len();
-    insert_meta(
-        t,
-        i,
-        Entry {
-            id,
-            seq,
-            age,
-            since: clock,
-            len,
-            slot,
-            hash,
-        },
-    )
+    let e = Entry {
+        id,
+        seq,
+        age,
+        len: bytes.len() as u16,
+        slot: free_slot(t),
+        since: clock,
+        hash,
+    };
+    store(mem, start_of(e), bytes);
+    insert_meta(t, i, e)
 }
 
 // New number, age and reading for the node at place i; its data stay.
-pub fn renumber(t: Table, i: usize, id: u32, seq: u32, age: u64, clock: u64) -> Table
+pub fn renumber(t: Table, i: usize, id: u32, seq: u32, age: u32, clock: u64) -> Table
     requires { ⌜ Arranged t × Stands t id i ⌝ }
     ensures { λ r. ⌜ Renumbered id seq age clock t i r ⌝ }
 {
@@ -243,9 +264,9 @@ pub fn renumber(t: Table, i: usize, id: u32, seq: u32, age: u64, clock: u64) -> 
             id,
             seq,
             age,
-            since: clock,
             len,
             slot,
+            since: clock,
             hash,
         },
     )
@@ -263,7 +284,7 @@ fn counted(j: usize, kept: bool) -> usize
 }
 
 // Only the nodes whose mark is set stay.
-pub fn purge(t: Table, marks: [bool; 32]) -> Table
+pub fn purge(t: Table, marks: [bool; MOST_NODES]) -> Table
     requires { ⌜ Arranged t ⌝ }
     ensures { λ r. ⌜ Purged marks t r ⌝ }
 {
@@ -298,8 +319,7 @@ pub fn publish_slot(
     ensures { λ r. ⌜ ((m d : List ℕ) → Kept t m → length d ≡ len → now (mem .entry) ≡ written m (metaAt t i .slot * dataLimit) d → Stored (entryOf id seq d 0 clock) t m i r (now (mem .entry))) ⌝ }
 {
     let old = meta_at(t, i);
-    let slot = old.slot;
-    let at = slot * SLOT;
+    let at = start_of(old);
     let end = at + len;
     let hash = hash16(&mem[at..end]);
     with_meta(
@@ -309,9 +329,9 @@ pub fn publish_slot(
             id,
             seq,
             age: 0,
+            len: len as u16,
+            slot: old.slot,
             since: clock,
-            len,
-            slot,
             hash,
         },
     )
@@ -332,8 +352,9 @@ pub fn insert_tlv(
     ensures { λ r. ⌜ Stored (entryOf id seq (spliced (dataOf (now (mem .entry)) (metaAt t i)) p (now (bytes .entry))) 0 clock) t (now (mem .entry)) i r (now (mem .exit)) ⌝ }
 {
     let old = meta_at(t, i);
-    insert_bytes(mem, old.slot * SLOT, old.len, p, bytes);
-    publish_slot(t, mem, i, id, seq, clock, old.len + bytes.len())
+    let len = old.len as usize;
+    insert_bytes(mem, start_of(old), len, p, bytes);
+    publish_slot(t, mem, i, id, seq, clock, len + bytes.len())
 }
 
 // The node at place i publishes its data without the n bytes from place p: one TLV, or several that stand together.
@@ -351,8 +372,9 @@ pub fn remove_tlv(
     ensures { λ r. ⌜ Stored (entryOf id seq (cut (dataOf (now (mem .entry)) (metaAt t i)) p n) 0 clock) t (now (mem .entry)) i r (now (mem .exit)) ⌝ }
 {
     let old = meta_at(t, i);
-    remove_bytes(mem, old.slot * SLOT, old.len, p, n);
-    publish_slot(t, mem, i, id, seq, clock, old.len - n)
+    let len = old.len as usize;
+    remove_bytes(mem, start_of(old), len, p, n);
+    publish_slot(t, mem, i, id, seq, clock, len - n)
 }
 
 // ---- tables to start from
@@ -365,14 +387,14 @@ pub fn empty() -> Table
         id: 0,
         seq: 0,
         age: 0,
-        since: 0,
         len: 0,
         slot: 0,
+        since: 0,
         hash: [0; 16],
     };
     Table {
         count: 0,
-        entries: [e; 32],
+        entries: [e; MOST_NODES],
     }
 }
 
@@ -386,13 +408,13 @@ pub fn begin(own: u32, clock: u64, mem: &[u8]) -> Table
         id: own,
         seq: 0,
         age: 0,
-        since: clock,
         len: 0,
         slot: 0,
+        since: clock,
         hash,
     };
     Table {
         count: 1,
-        entries: [e; 32],
+        entries: [e; MOST_NODES],
     }
 }

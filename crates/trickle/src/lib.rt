@@ -1,4 +1,8 @@
 // One endpoint's Trickle state by value (RFC 6206, 4.2): each method returns the next state.
+use model::figures::GREATEST_INTERVAL;
+use model::figures::LEAST_INTERVAL;
+use model::figures::MOST_COUNT;
+use model::figures::REDUNDANCY;
 ghost use mathlib.Core.Path.{_≡_};
 ghost use Prim.Native.Nat.{_*_, _≤_, min};
 ghost use Rattle.model.specs.Figures.{leastInterval, greatestInterval};
@@ -42,10 +46,10 @@ impl Trickle {
         ensures { λ r. ⌜ trickleOf r ≡ hear (trickleOf self) ⌝ }
     {
         let mut next = self;
-        if next.count < 255 {
+        if next.count < MOST_COUNT {
             next.count += 1;
         } else {
-            next.count = 255;
+            next.count = MOST_COUNT;
         }
         next
     }
@@ -54,8 +58,8 @@ impl Trickle {
     pub fn reset(self, clock: u64, random: u32) -> Trickle
         ensures { λ r. ⌜ trickleOf r ≡ reset clock random (trickleOf self) ⌝ }
     {
-        if 200 < self.interval {
-            return Trickle::fresh(clock, 200, random);
+        if LEAST_INTERVAL < self.interval {
+            return Trickle::fresh(clock, LEAST_INTERVAL, random);
         }
         self
     }
@@ -66,10 +70,10 @@ impl Trickle {
         ensures { λ r. ⌜ trickleOf r ≡ fresh clock (min (self .interval * 2) greatestInterval) random ⌝ }
     {
         let twice = self.interval * 2;
-        if twice < 25600 {
+        if twice < GREATEST_INTERVAL {
             return Trickle::fresh(clock, twice, random);
         }
-        Trickle::fresh(clock, 25600, random)
+        Trickle::fresh(clock, GREATEST_INTERVAL, random)
     }
 
     // The send point is unspent, and now is at or past it.
@@ -92,7 +96,7 @@ impl Trickle {
             let mut next = self;
             next.spent = true;
             return Event {
-                sends: self.count < 1,
+                sends: self.count < REDUNDANCY,
                 next,
             };
         }

@@ -24,7 +24,6 @@ use Rattle.trickle.proofs.Laws.{fits-small}
 use Rattle.table.specs.View.{view, Wrote}
 use Rattle.table.specs.declared.Table.{Table}
 use Rattle.reach.specs.Marks.{Readable}
-use Rattle.reach.proofs.Nodes.{fits-readable}
 use Rattle.node.specs.View.{endpointOf, stateOf, Rep, Held, Published, Settled}
 use Rattle.node.specs.declared.State.{State}
 use Rattle.node.specs.declared.Endpoint.{Endpoint}
@@ -32,7 +31,7 @@ use Rattle.node.proofs.Parts.{state-own, state-digest}
 use Rattle.node.proofs.Moves.{published-then}
 use Rattle.node.proofs.Settling.{settled-moved}
 use Rattle.upkeep.specs.Ticked.{Cleared, TickedFrom}
-use Rattle.upkeep.proofs.Leaving.{held-midway}
+use Rattle.upkeep.proofs.Leaving.{midway-readable}
 
 -- ---- the bytes
 
@@ -56,8 +55,7 @@ module _ (clock i : ℕ) (s : State) (m : List ℕ) (mid : Midway clock (stateOf
   dropped-midway = subst (Midway clock) (sym (o .moved .is)) (silent-kept clock i (stateOf s m) mid)
 
   pub dropped-readable : clock ≤ lastReading → Readable clock (a .table) m′ × Held a m′
-  unfolding stateOf
-  dropped-readable l = (fits-readable (a .own) clock (a .table) m′ (o .moved .rep .table) (dropped-midway .table) l, held-midway clock a m′ dropped-midway)
+  dropped-readable l = midway-readable clock a m′ dropped-midway (o .moved .rep) l
 
   pub dropped-cleared : (rs d : List ℕ) (r : State) → d ≡ networkDigest (a .own) clock (view (a .table) m′) → Settled clock rs d a r → Cleared clock i rs s m r m′
   dropped-cleared rs d r e h =
@@ -116,9 +114,10 @@ module _ (clock i : ℕ) (rs : List ℕ) (s : State) (m : List ℕ) (b : State) 
 
     module _ (room : List ℕ) where
       -- nothing is sent
-      pub quiet-tick : v .sends ≡ false → TickedFrom s m room clock i rs (record { state = r; length = 0 }) m′ room
+      pub quiet-tick : v .sends ≡ false → TickedFrom s m room clock i rs (record { number = 0; state = r; length = 0 }) m′ room
       quiet-tick h =
           record {
+            accepted = refl;
             rep = f;
             wrote = wrote;
             is = answer-is [] (rw h);
@@ -130,11 +129,12 @@ module _ (clock i : ℕ) (rs : List ℕ) (s : State) (m : List ℕ) (b : State) 
           }
 
       pub sent-tick : v .sends ≡ true → mostBytes ≤ length room → (room′ : List ℕ) → room′ ≡ written room 0 (endpointTlv (r .own) i ++ networkTlv (r .digest))
-          → TickedFrom s m room clock i rs (record { state = r; length = 32 }) m′ room′
+          → TickedFrom s m room clock i rs (record { number = 0; state = r; length = 32 }) m′ room′
       sent-tick h l room′ p =
           let d : List ℕ = endpointTlv (r .own) i ++ networkTlv (r .digest) in
           let z : length (endpointTlv (r .own) i ++ networkTlv (r .digest)) ≡ 32 = announced-length (r .own) i (r .digest) (f .digest) in
           record {
+            accepted = refl;
             rep = f;
             wrote = wrote;
             is = answer-is (take 32 room′) (part-there room room′ d 0 32 p (sym z) (omega arith) ∙ announced-is ∙ rw h);

@@ -10,7 +10,7 @@ use Rattle.base.proofs.Tests.{by-test}
 use Rattle.base.proofs.Lists.{all-more}
 use Rattle.base.proofs.Places.{getD-any, all-at}
 use Rattle.wire.specs.Order.{good}
-use Rattle.model.specs.Figures.{mostPeers, dataLimit, mostAge}
+use Rattle.model.specs.Figures.{mostPeers, dataLimit, lastReading}
 use Rattle.model.specs.Table.{Entry, ageAt}
 use Rattle.model.specs.State.{State as ModelState, Peer as ModelPeer, ownEntry}
 use Rattle.model.specs.Tick.{goes, someOf}
@@ -19,6 +19,8 @@ use Rattle.model.proofs.Cases.{gone, stay}
 use Rattle.model.proofs.KeptParts.{midway-own}
 use Rattle.table.specs.View.{seen, view, Read, Stands, AllGood}
 use Rattle.table.specs.declared.Entry.{Entry as Meta}
+use Rattle.reach.specs.Marks.{Readable}
+use Rattle.reach.proofs.Nodes.{fits-readable}
 use Rattle.base.proofs.Marks.{not-at, none-set, keep-by-places, any-places, Filled, fill-start, fill-set}
 use Rattle.node.specs.View.{peerOf, peersOf, stateOf, PeersRep, Rep, Held}
 use Rattle.node.specs.declared.State.{State}
@@ -33,6 +35,11 @@ use Rattle.upkeep.specs.Ticked.{Lent, Scanned, Going}
 module _ (clock : ℕ) (s : State) (m : List ℕ) (mid : Midway clock (stateOf s m)) where
   pub held-midway : Held s m
   held-midway = state-held s m (mid .table .held)
+
+  -- the marking may read the table, and our own node stands there
+  pub midway-readable : Rep s m → clock ≤ lastReading → Readable clock (s .table) m × Held s m
+  unfolding stateOf
+  midway-readable k l = (fits-readable (s .own) clock (s .table) m (k .table) (mid .table) l, held-midway)
 
   pub good-midway : AllGood (view (s .table) m)
   unfolding stateOf
@@ -50,10 +57,8 @@ module _ (clock : ℕ) (s : State) (m : List ℕ) (i : ℕ) (k : Rep s m) (h : S
   row-is : ownEntry (stateOf s m) ≡ seen m e
   row-is = own-entry s m i k h ∙ ap (seen m) (sym (r .same))
 
-  pub meta-fits : Midway clock (stateOf s m) → (e .since ≤ clock) × (e .age ≤ mostAge)
-  meta-fits mid =
-      let f : EntryFits clock (seen m e) = subst (EntryFits clock) row-is (midway-own (stateOf s m) mid) in
-      (f .since, f .age)
+  pub meta-since : Midway clock (stateOf s m) → e .since ≤ clock
+  meta-since mid = subst (EntryFits clock) row-is (midway-own (stateOf s m) mid) .since
 
   pub meta-age : e .age + (clock - e .since) ≡ ageAt clock (ownEntry (stateOf s m))
   meta-age = ap (ageAt clock) (sym row-is)

@@ -4,3 +4,4 @@ pub mod Leaving
 pub mod Shapes
 pub mod Removal
 pub mod Events
+pub mod Purging

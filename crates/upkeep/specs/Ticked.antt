@@ -14,7 +14,7 @@ use Rattle.table.specs.declared.Table.{Table}
 use Rattle.node.specs.declared.State.{State}
 use Rattle.node.specs.declared.peers.Peer.{Peer}
 use Rattle.node.specs.View.{peerOf, stateOf, Rep, Published}
-use Rattle.upkeep.specs.declared.tick.Ticked.{Ticked}
+use Rattle.node.specs.declared.answers.Sent.{Sent}
 
 -- what the scan asks of the peers that are lent to it, of the table and of its memory: the first `count` stand there and were heard by now
 pub record Lent (clock count : ℕ) (t : Table) (m : List ℕ) (list : List Peer) : Type 0 where
@@ -42,9 +42,10 @@ pub record Cleared (clock endpoint : ℕ) (randoms : List ℕ) (s : State) (m : 
   pub midway : Midway clock (settle clock randoms (dropSilent clock endpoint (stateOf s m)))
 
 -- the model's answer, and every byte that is not the answer's as it was
-pub record TickedFrom (s : State) (m r : List ℕ) (clock endpoint : ℕ) (randoms : List ℕ) (o : Ticked) (m′ r′ : List ℕ) : Type 0 where
+pub record TickedFrom (s : State) (m r : List ℕ) (clock endpoint : ℕ) (randoms : List ℕ) (o : Sent) (m′ r′ : List ℕ) : Type 0 where
   pub rep : Rep (o .state) m′
-  pub is : record { number = 0; state = stateOf (o .state) m′; bytes = take (o .length) r′ } ≡ ticked clock endpoint randoms (stateOf s m)
+  pub accepted : o .number ≡ 0
+  pub is : record { number = o .number; state = stateOf (o .state) m′; bytes = take (o .length) r′ } ≡ ticked clock endpoint randoms (stateOf s m)
   pub wrote : Wrote (s .table) m (view (o .state .table) m′) (o .state .table) m′
   pub used : o .length ≤ mostBytes
   pub size : length m′ ≡ length m

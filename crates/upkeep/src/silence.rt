@@ -1,5 +1,8 @@
 // Peers that have been silent too long, and our own age.
 use base::big_endian::read_u32;
+use model::figures::MOST_PEERS;
+use model::figures::REFRESH_AGE;
+use model::figures::USUAL_INTERVAL;
 use node::State;
 use node::leaving::drop_peers;
 use node::peers::Peer;
@@ -55,7 +58,7 @@ pub fn interval_in(nd: &[u8], endpoint: u32) -> u64
         }
         at = h.next;
     }
-    20000
+    USUAL_INTERVAL
 }
 
 // 10 x silence is at least 21 x interval; the product of the silence could exceed 64 bits.
@@ -74,7 +77,7 @@ fn interval_of(t: Table, mem: &[u8], p: Peer) -> u64
     let found = find(t, p.node);
     match found {
         Found::At(i) => interval_in(data_of(t, mem, i), p.theirs),
-        Found::Missing(_) => 20000,
+        Found::Missing(_) => USUAL_INTERVAL,
     }
 }
 
@@ -90,11 +93,18 @@ fn is_going(t: Table, mem: &[u8], clock: u64, endpoint: u32, p: Peer) -> bool
 }
 
 // A mark for each of the first `count` peers that goes: the scan of the lent peers.
-fn scan(peers: &[Peer], count: usize, t: Table, mem: &[u8], clock: u64, endpoint: u32) -> [bool; 16]
+fn scan(
+    peers: &[Peer],
+    count: usize,
+    t: Table,
+    mem: &[u8],
+    clock: u64,
+    endpoint: u32,
+) -> [bool; MOST_PEERS]
     requires { ⌜ Lent clock count t (now mem) (now peers) ⌝ }
     ensures { λ r. ⌜ Scanned clock endpoint count (view t (now (mem .entry))) (now (peers .entry)) r ⌝ }
 {
-    let mut marks = [false; 16];
+    let mut marks = [false; MOST_PEERS];
     let mut i = 0;
     while i < count {
         marks[i] = is_going(t, mem, clock, endpoint, peers[i]);
@@ -105,13 +115,13 @@ fn scan(peers: &[Peer], count: usize, t: Table, mem: &[u8], clock: u64, endpoint
 
 // The same of a list by value, which is lent for the scan.
 fn marks_of(
-    list: [Peer; 16],
+    list: [Peer; MOST_PEERS],
     count: usize,
     t: Table,
     mem: &[u8],
     clock: u64,
     endpoint: u32,
-) -> [bool; 16]
+) -> [bool; MOST_PEERS]
     requires { ⌜ Lent clock count t (now mem) list ⌝ }
     ensures { λ r. ⌜ Scanned clock endpoint count (view t (now (mem .entry))) list r ⌝ }
 {
@@ -119,7 +129,7 @@ fn marks_of(
 }
 
 // A mark for each peer that goes.
-fn going(s: State, mem: &[u8], clock: u64, endpoint: u32) -> [bool; 16]
+fn going(s: State, mem: &[u8], clock: u64, endpoint: u32) -> [bool; MOST_PEERS]
     requires { ⌜ Rep s (now mem) × Midway clock (stateOf s (now mem)) ⌝ }
     ensures { λ r. ⌜ Going clock endpoint (stateOf s (now (mem .entry))) r ⌝ }
 {
@@ -129,11 +139,11 @@ fn going(s: State, mem: &[u8], clock: u64, endpoint: u32) -> [bool; 16]
 }
 
 // Some mark is set.
-fn is_some(marks: [bool; 16]) -> bool
+fn is_some(marks: [bool; MOST_PEERS]) -> bool
     ensures { λ r. ⌜ r ≡ any (λ b. b) marks ⌝ }
 {
     let mut i = 0;
-    while i < 16 {
+    while i < MOST_PEERS {
         if marks[i] {
             return true;
         }
@@ -147,13 +157,13 @@ fn is_stale(s: State, mem: &[u8], clock: u64) -> bool
     requires { ⌜ Rep s (now mem) × (Midway clock (stateOf s (now mem)) × (clock ≤ lastReading)) ⌝ }
     ensures { λ r. ⌜ r ≡ leb refreshAge (ageAt clock (ownEntry (stateOf s (now (mem .entry))))) ⌝ }
 {
-    let i = own_place(s, mem);
+    let i = own_place(s.table, mem, s.own);
     let e = meta_at(s.table, i);
-    4294901760 <= age_at(e, clock)
+    REFRESH_AGE <= age_at(e, clock)
 }
 
 // We republish: some peer goes, or our age asks for it.
-fn is_republishing(s: State, mem: &[u8], clock: u64, marks: [bool; 16]) -> bool
+fn is_republishing(s: State, mem: &[u8], clock: u64, marks: [bool; MOST_PEERS]) -> bool
     requires { ⌜ Rep s (now mem) × (Midway clock (stateOf s (now mem)) × (clock ≤ lastReading)) ⌝ }
     ensures { λ r. ⌜ r ≡ any (λ b. b) marks || leb refreshAge (ageAt clock (ownEntry (stateOf s (now (mem .entry))))) ⌝ }
 {

@@ -3,8 +3,9 @@ use crate::silence::drop_silent;
 use base::memory::store;
 use message::network_tlv;
 use message::put_endpoint;
-use node::Endpoint;
+use model::figures::MOST_ENDPOINTS;
 use node::State;
+use node::answers::Sent;
 use node::endpoints::endpoint_at;
 use node::endpoints::with_endpoint;
 use node::settle::settle;
@@ -20,12 +21,6 @@ ghost use Rattle.model.specs.Invariant.{Midway};
 ghost use Rattle.node.specs.View.{stateOf, Rep};
 ghost use Rattle.upkeep.specs.Ticked.{Cleared, TickedFrom};
 
-// The state after a tick, and how many bytes are to be sent.
-pub struct Ticked {
-    pub state: State,
-    pub length: usize,
-}
-
 // Node Endpoint and Network State to the front of the room.
 fn announce(room: &mut [u8], own: u32, endpoint: u32, digest: [u8; 16])
     requires { ⌜ (32 ≤ length (now room)) × (length digest ≡ 16) ⌝ }
@@ -37,14 +32,19 @@ fn announce(room: &mut [u8], own: u32, endpoint: u32, digest: [u8; 16])
 }
 
 // Silent peers gone, and the digest compared.
-fn cleared(s: State, mem: &mut [u8], clock: u64, endpoint: u32, randoms: [u32; 4]) -> State
+fn cleared(
+    s: State,
+    mem: &mut [u8],
+    clock: u64,
+    endpoint: u32,
+    randoms: [u32; MOST_ENDPOINTS],
+) -> State
     requires { ⌜ Rep s (now mem) × (Midway clock (stateOf s (now mem)) × (clock ≤ lastReading)) ⌝ }
     ensures { λ r. ⌜ Cleared clock endpoint randoms s (now (mem .entry)) r (now (mem .exit)) ⌝ }
 {
     let a = drop_silent(s, mem, clock, endpoint);
     let found = reach(a.table, mem, a.own, clock);
-    let digest = found.digest;
-    settle(a, clock, randoms, digest)
+    settle(a, clock, randoms, found)
 }
 
 // At most one event on the endpoint, after silent peers have gone and the digest was compared.
@@ -54,8 +54,8 @@ pub fn tick(
     room: &mut [u8],
     clock: u64,
     endpoint: u32,
-    randoms: [u32; 4],
-) -> Ticked
+    randoms: [u32; MOST_ENDPOINTS],
+) -> Sent
     requires { ⌜ Rep s (now mem) × (Midway clock (stateOf s (now mem)) × ((clock ≤ lastReading) × ((1 ≤ endpoint) × ((endpoint ≤ 4) × (mostBytes ≤ length (now room)))))) ⌝ }
     ensures { λ r. ⌜ TickedFrom s (now (mem .entry)) (now (room .entry)) clock endpoint randoms r (now (mem .exit)) (now (room .exit)) ⌝ }
 {
@@ -65,20 +65,20 @@ pub fn tick(
     let k = (endpoint - 1) as usize;
     let v = t.tick(clock, randoms[k]);
     let next = v.next;
-    let f = Endpoint {
-        trickle: next,
-        next: e.next,
-    };
+    let mut f = e;
+    f.trickle = next;
     let r = with_endpoint(b, endpoint, f);
     if !v.sends {
-        return Ticked {
+        return Sent {
+            number: 0,
             state: r,
             length: 0,
         };
     }
     let digest = r.digest;
     announce(room, r.own, endpoint, digest);
-    Ticked {
+    Sent {
+        number: 0,
         state: r,
         length: 32,
     }

@@ -7,7 +7,8 @@ use mir.Syntax.{w64}
 use mir.Val.{SFits}
 use Rattle.base.proofs.Signed.{narrow-back}
 use Rattle.wire.specs.Payment.{mostHousehold}
-use Rattle.report.specs.Steps.{Put, sumAt, markAt, linesTo}
+use Rattle.text.specs.Room.{Put}
+use Rattle.report.specs.Steps.{sumAt, markAt, linesTo}
 use Rattle.report.proofs.Puts.{lines-start, line-fits, line-put, lines-end, lines-skip}
 use Rattle.report.proofs.put_lines.Statement.{statement}
 use Rattle.report.proofs.put_lines.Tie as tie

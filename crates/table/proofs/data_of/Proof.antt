@@ -2,35 +2,22 @@ use borrow.Author.Needs.{needs}
 use Rattle.table.proofs.data_of.Statement.{statement}
 use Rattle.table.proofs.data_of.Tie as tie
 use native.Mathlib.Omega.{arith}
-use mathlib.Core.Path.{refl}
-use Rattle.table.proofs.Tables.{data-read}
+use mathlib.Core.Path.{ap, _∙_}
+use Rattle.table.specs.View.{dataOf}
+use Rattle.table.specs.declared.Entry.{Entry as Meta}
 
 meta-at-requires : tie.Need-meta-at-requires
 meta-at-requires c κs = search needs
 
-mul-a : tie.Need-mul-a
-mul-a c = search needs
-
-add-b : tie.Need-add-b
-add-b c = search needs
-
-sub-result : tie.Need-sub-result
-sub-result c = search needs
-
-part-result-start : tie.Need-part-result-start
-part-result-start c = search needs
-
-part-result-end : tie.Need-part-result-end
-part-result-end c = search needs
+bytes-of-requires : tie.Need-bytes-of-requires
+bytes-of-requires c κs = search needs
 
 returns : tie.Need-returns
 returns c =
-    let a = c .before .before .before .before .before .args in
-    let o = c .before .before .before .meta-at in
-    let e = data-read (a .t) (a .mem .now) (a .i) (o .result) (o .ensures) in
-    (e .0, (refl, omega (arith, e .1)))
+    let a = c .before .before .before .args in
+    let o = c .before .meta-at .ensures .same in
+    let e = c .bytes-of .ensures in
+    (e .0 ∙ ap (dataOf (a .mem .now)) o, (e .1 .0, omega (arith, e .1 .1, ap (λ (x : Meta). x .slot) o)))
 
 pub data-of-spec : {M : Type 1} → statement M
-data-of-spec =
-    tie.close
-    (tie.spec meta-at-requires mul-a add-b sub-result part-result-start part-result-end returns)
+data-of-spec = tie.close (tie.spec meta-at-requires bytes-of-requires returns)

@@ -6,8 +6,11 @@ use Rattle.table.proofs.Tables.{cut-out}
 meta-at-requires : tie.Need-meta-at-requires
 meta-at-requires c κs = search needs
 
-mul-remove-bytes : tie.Need-mul-remove-bytes
-mul-remove-bytes c = search needs
+cast-len : tie.Need-cast-len
+cast-len c = search needs
+
+start-of-requires : tie.Need-start-of-requires
+start-of-requires c κs = search needs
 
 remove-bytes-requires : tie.Need-remove-bytes-requires
 remove-bytes-requires c κs = search needs
@@ -26,8 +29,9 @@ returns c =
     let a = c .before .before .before .before .before .before .before .before .before .before .args in
     let p = c .before .before .before .before .before .before .before .before .before .before .pre in
     let o = c .before .before .before .before .before .before .before .before .meta-at in
-    let w = c .before .before .before .before .before .remove-bytes in
-    cut-out (a .t) (c .publish-slot .result) (a .mem .now) (w .last .0) (a .i) (a .id) (a .seq) (a .clock) (a .p) (o .result) (p .0) (o .ensures)
+    let s = c .before .before .before .before .before .start-of in
+    let w = c .before .before .before .before .remove-bytes in
+    cut-out (a .t) (c .publish-slot .result) (a .mem .now) (w .last .0) (a .i) (a .id) (a .seq) (a .clock) (a .p) (s .result) (o .result) (p .0) (o .ensures) (s .ensures)
     (a .n) (p .1 .1) (w .ensures) (c .publish-slot .ensures)
 
 pub remove-tlv-spec : {M : Type 1} → statement M
@@ -35,7 +39,8 @@ remove-tlv-spec =
     tie.close
     (tie.spec
     meta-at-requires
-    mul-remove-bytes
+    cast-len
+    start-of-requires
     remove-bytes-requires
     sub-publish-slot
     publish-slot-requires

@@ -61,13 +61,13 @@ same-length c = search needs
 
 returns : tie.Need-returns
 returns c =
-    let s = c .before .before .before .before .before .before .before .before .before .before .before .before .before .before .before .before in
+    let s = c .before .before .before .before .before .before .before .before .before .before .before .before .before .before .before in
     let a = s .args in
-    let t = c .before .before .before .before .before .before .before .before .before .before .before .before .before .put-payment in
-    let o = c .before .before .before .before .before .before .before .before .before .before .own-seq in
-    let n = c .before .before .before .before .before .before .before .before .before .advanced in
-    let r = c .before .before .before .before .before .before .publish-with in
-    let x = c .before .before .reach in
+    let t = c .before .before .before .before .before .before .before .before .before .before .before .before .put-payment in
+    let o = c .before .before .before .before .before .before .before .before .before .own-seq in
+    let n = c .before .before .before .before .before .before .before .before .advanced in
+    let r = c .before .before .before .before .before .publish-with in
+    let x = c .before .reach in
     paid-settled (a .household) (a .receipt) (a .amount) (s .fits .amount) _ (t .last .0) (t .result) (omega arith) (t .ensures)
     (a .clock) (a .s) (a .mem .now) (o .result) (n .result) (o .ensures) (n .ensures)
     (r .result) (r .last .1 .0) (r .ensures) (a .randoms) (x .result) (c .settle .result) (x .ensures) (c .settle .ensures)

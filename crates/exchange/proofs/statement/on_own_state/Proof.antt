@@ -1,13 +1,14 @@
 use borrow.Author.Needs.{needs}
-use Rattle.exchange.proofs.Statements.{ready-held, own-stays, own-again}
 use Rattle.exchange.proofs.statement.on_own_state.Statement.{statement}
 use Rattle.exchange.proofs.statement.on_own_state.Tie as tie
+use native.Mathlib.Omega.{arith}
+use Rattle.exchange.proofs.Statements.{told-stays, told-again}
 
 own-place-requires : tie.Need-own-place-requires
-own-place-requires c κs = (c .before .before .before .before .pre .0 .sound .rep, ready-held (c .before .before .before .before .pre .0))
+own-place-requires c κs = (c .before .before .pre .0 .kept, c .before .before .pre .0 .fits .held)
 
 meta-at-requires : tie.Need-meta-at-requires
-meta-at-requires c κs = search needs
+meta-at-requires c κs = (c .before .before .before .pre .0 .kept .arranged, c .own-place .ensures .at)
 
 read-u32-requires : tie.Need-read-u32-requires
 read-u32-requires c κs = search needs
@@ -24,30 +25,17 @@ part-is-different-end c = search needs
 is-different-requires : tie.Need-is-different-requires
 is-different-requires c κs = search needs
 
+still-requires : tie.Need-still-requires
+still-requires c κs = search needs
+
 returns : tie.Need-returns
-returns c =
-    let a = c .before .before .before .before .before .before .before .before .before .before .args in
-    let i = c .before .before .before .before .before .own-place in
-    let e = c .before .before .before .before .meta-at in
-    let n = c .before .before .before .read-u32 in
-    let d = c .before .is-different in
-    own-stays (a .c) (a .w) (a .mem .now) (a .room .now) (a .value .now) (c .before .before .before .before .before .before .before .before .before .before .pre .0 .sound) (i .result) (i .ensures) (e .result) (e .ensures) (n .result) (n .ensures) (d .result) (d .ensures) (c .if1 .taken)
+returns c p = rw (c .still .ensures) (told-stays (c .before .before .before .before .before .before .before .before .before .args .value .now) (c .before .before .before .before .before .before .own-place .result) (c .before .before .before .before .before .before .own-place .ensures) (c .before .before .before .before .before .meta-at .result) (c .before .before .before .before .before .meta-at .ensures) (c .before .before .before .before .read-u32 .result) (c .before .before .before .before .read-u32 .ensures) (c .before .before .is-different .result) (c .before .before .is-different .ensures) (c .before .if1 .taken))
 
 advanced-requires : tie.Need-advanced-requires
 advanced-requires c κs = search needs
 
-publish-as-requires : tie.Need-publish-as-requires
-publish-as-requires c κs = (c .before .before .before .before .before .before .before .before .before .before .before .pre .0 .sound .rep, ready-held (c .before .before .before .before .before .before .before .before .before .before .before .pre .0))
-
 returns-2 : tie.Need-returns-2
-returns-2 c =
-    let a = c .before .before .before .before .before .before .before .before .before .before .before .before .args in
-    let i = c .before .before .before .before .before .before .before .own-place in
-    let e = c .before .before .before .before .before .before .meta-at in
-    let n = c .before .before .before .before .before .read-u32 in
-    let d = c .before .before .before .is-different in
-    own-again (a .c) (a .w) (a .mem .now) (a .room .now) (a .value .now) (c .before .before .before .before .before .before .before .before .before .before .before .before .pre .0 .sound) (i .result) (i .ensures) (e .result) (e .ensures) (n .result) (n .ensures) (d .result) (d .ensures) (c .before .before .if1 .left)
-    (c .before .advanced .result) (c .before .advanced .ensures) (c .publish-as .result) (c .publish-as .ensures)
+returns-2 c p = told-again (c .before .before .before .before .before .before .before .before .before .args .value .now) (c .before .before .before .before .before .before .own-place .result) (c .before .before .before .before .before .before .own-place .ensures) (c .before .before .before .before .before .meta-at .result) (c .before .before .before .before .before .meta-at .ensures) (c .before .before .before .before .read-u32 .result) (c .before .before .before .before .read-u32 .ensures) (c .before .before .is-different .result) (c .before .before .is-different .ensures) (c .before .if1 .left) (c .advanced .result) (c .advanced .ensures)
 
 pub on-own-state-spec : {M : Type 1} → statement M
 on-own-state-spec =
@@ -60,7 +48,7 @@ on-own-state-spec =
     part-is-different-start
     part-is-different-end
     is-different-requires
+    still-requires
     returns
     advanced-requires
-    publish-as-requires
     returns-2)

@@ -1,57 +1,22 @@
 use borrow.Author.Needs.{needs}
-use Rattle.exchange.proofs.Statements.{state-ours, state-theirs}
 use Rattle.exchange.proofs.statement.on_state.Statement.{statement}
 use Rattle.exchange.proofs.statement.on_state.Tie as tie
+use Rattle.exchange.proofs.Statements.{state-ours, state-theirs}
 
 read-u32-requires : tie.Need-read-u32-requires
 read-u32-requires c κs = search needs
 
 on-own-state-requires : tie.Need-on-own-state-requires
-on-own-state-requires c κs = search needs
-
-same-length : tie.Need-same-length
-same-length c = search needs
-
-same-length-2 : tie.Need-same-length-2
-same-length-2 c = search needs
+on-own-state-requires c κs = c .before .before .before .before .before .pre
 
 returns : tie.Need-returns
-returns c =
-    let a = c .before .before .before .before .before .before .before .before .before .args in
-    let n = c .before .before .before .before .before .read-u32 in
-    state-ours (a .c) (a .w) (a .mem .now) (a .room .now) (a .value .now) (n .result) (n .ensures) (c .on-own-state .result) _ _ (c .before .before .before .if1 .taken) (c .on-own-state .ensures)
+returns c p = state-ours (c .before .before .before .before .before .before .args .value .now) (c .before .before .before .read-u32 .result) (c .before .before .before .read-u32 .ensures) (c .before .if1 .taken) (c .on-own-state .ensures p)
 
 decide-requires : tie.Need-decide-requires
-decide-requires c κs = search needs
-
-carry-out-requires : tie.Need-carry-out-requires
-carry-out-requires c κs = search needs
-
-same-length-3 : tie.Need-same-length-3
-same-length-3 c = search needs
-
-same-length-4 : tie.Need-same-length-4
-same-length-4 c = search needs
+decide-requires c κs = (c .before .before .before .before .before .pre .0 .kept, c .before .before .before .before .before .pre .1)
 
 returns-2 : tie.Need-returns-2
-returns-2 c =
-    let a = c .before .before .before .before .before .before .before .before .before .before .before .before .before .before .before .args in
-    let n = c .before .before .before .before .before .before .before .before .before .before .before .read-u32 in
-    let d = c .before .before .before .before .before .before .before .decide in
-    let k = c .before .before .before .before .carry-out in
-    state-theirs (a .c) (a .w) (a .mem .now) (a .room .now) (a .value .now) (n .result) (n .ensures) (k .result) _ _ (c .before .before .before .before .before .before .before .before .before .if1 .left) (d .result) (d .ensures .1 .1) (k .ensures)
+returns-2 c p = state-theirs (c .before .before .before .before .before .before .args .value .now) (c .before .before .before .read-u32 .result) (c .before .before .before .read-u32 .ensures) (c .before .if1 .left) (c .decide .result) (c .decide .ensures .0) (c .decide .ensures .1 .0) (c .decide .ensures .1 .1)
 
 pub on-state-spec : {M : Type 1} → statement M
-on-state-spec =
-    tie.close
-    (tie.spec
-    read-u32-requires
-    on-own-state-requires
-    same-length
-    same-length-2
-    returns
-    decide-requires
-    carry-out-requires
-    same-length-3
-    same-length-4
-    returns-2)
+on-state-spec = tie.close (tie.spec read-u32-requires on-own-state-requires returns decide-requires returns-2)

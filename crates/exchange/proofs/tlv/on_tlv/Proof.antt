@@ -1,27 +1,29 @@
 use borrow.Author.Needs.{needs}
-use mathlib.Core.Path.{refl}
 use Rattle.exchange.proofs.tlv.on_tlv.Statement.{statement}
 use Rattle.exchange.proofs.tlv.on_tlv.Tie as tie
+use mathlib.Core.Path.{refl}
 use Rattle.exchange.proofs.Tlvs.{short-node, short-endpoint, short-network, short-state, other-type, network-asked, node-asked, endpoint-met, network-met, state-met}
 
 on-request-network-requires : tie.Need-on-request-network-requires
-on-request-network-requires c κs = search needs
+on-request-network-requires c κs = c .before .before .before .pre .0
+
+still-requires : tie.Need-still-requires
+still-requires c κs = search needs
 
 returns : tie.Need-returns
-returns c =
-    let a = c .before .before .before .before .before .args in
-    short-node (a .c) (a .w) (a .mem .now) (a .room .now) (a .kind) (a .value .now) (c .before .before .before .before .before .pre) (c .before .match .keys2) (c .if1 .taken)
+returns c = rw (c .still .ensures) (short-node (c .before .before .before .before .before .args .c) (c .before .before .before .before .before .args .t) (c .before .before .before .before .before .args .p) (c .before .before .before .before .before .args .d) (c .before .before .before .before .before .args .mem .now) (c .before .before .before .before .before .args .kind) (c .before .before .before .before .before .args .value .now) (c .before .before .match .keys2) (c .before .if1 .taken))
 
 read-u32-requires : tie.Need-read-u32-requires
 read-u32-requires c κs = search needs
 
 on-request-node-requires : tie.Need-on-request-node-requires
-on-request-node-requires c κs = search needs
+on-request-node-requires c κs = c .before .before .before .before .before .pre .0
+
+still-requires-2 : tie.Need-still-requires-2
+still-requires-2 c κs = search needs
 
 returns-2 : tie.Need-returns-2
-returns-2 c =
-    let a = c .before .before .before .before .before .args in
-    short-endpoint (a .c) (a .w) (a .mem .now) (a .room .now) (a .kind) (a .value .now) (c .before .before .before .before .before .pre) (c .before .match .keys3) (c .if2 .taken)
+returns-2 c = rw (c .still2 .ensures) (short-endpoint (c .before .before .before .before .before .args .c) (c .before .before .before .before .before .args .t) (c .before .before .before .before .before .args .p) (c .before .before .before .before .before .args .d) (c .before .before .before .before .before .args .mem .now) (c .before .before .before .before .before .args .kind) (c .before .before .before .before .before .args .value .now) (c .before .before .match .keys3) (c .before .if2 .taken))
 
 read-u32-requires-2 : tie.Need-read-u32-requires-2
 read-u32-requires-2 c κs = search needs
@@ -30,12 +32,13 @@ read-u32-requires-3 : tie.Need-read-u32-requires-3
 read-u32-requires-3 c κs = search needs
 
 on-endpoint-requires : tie.Need-on-endpoint-requires
-on-endpoint-requires c κs = search needs
+on-endpoint-requires c κs = c .before .before .before .before .before .before .pre
+
+still-requires-3 : tie.Need-still-requires-3
+still-requires-3 c κs = search needs
 
 returns-3 : tie.Need-returns-3
-returns-3 c =
-    let a = c .before .before .before .before .before .args in
-    short-network (a .c) (a .w) (a .mem .now) (a .room .now) (a .kind) (a .value .now) (c .before .before .before .before .before .pre) (c .before .match .keys4) (c .if3 .taken)
+returns-3 c = rw (c .still3 .ensures) (short-network (c .before .before .before .before .before .args .c) (c .before .before .before .before .before .args .t) (c .before .before .before .before .before .args .p) (c .before .before .before .before .before .args .d) (c .before .before .before .before .before .args .mem .now) (c .before .before .before .before .before .args .kind) (c .before .before .before .before .before .args .value .now) (c .before .before .match .keys4) (c .before .if3 .taken))
 
 sub-on-network : tie.Need-sub-on-network
 sub-on-network c = search needs
@@ -47,123 +50,77 @@ part-on-network-end : tie.Need-part-on-network-end
 part-on-network-end c = search needs
 
 on-network-requires : tie.Need-on-network-requires
-on-network-requires c κs = search needs
+on-network-requires c κs = c .before .before .before .before .before .pre .0
+
+still-requires-4 : tie.Need-still-requires-4
+still-requires-4 c κs = search needs
 
 returns-4 : tie.Need-returns-4
-returns-4 c =
-    let a = c .before .before .before .before .before .args in
-    short-state (a .c) (a .w) (a .mem .now) (a .room .now) (a .kind) (a .value .now) (c .before .before .before .before .before .pre) (c .before .match .keys5) (c .if4 .taken)
+returns-4 c = rw (c .still4 .ensures) (short-state (c .before .before .before .before .before .args .c) (c .before .before .before .before .before .args .t) (c .before .before .before .before .before .args .p) (c .before .before .before .before .before .args .d) (c .before .before .before .before .before .args .mem .now) (c .before .before .before .before .before .args .kind) (c .before .before .before .before .before .args .value .now) (c .before .before .match .keys5) (c .before .if4 .taken))
 
 on-state-requires : tie.Need-on-state-requires
-on-state-requires c κs = search needs
+on-state-requires c κs = (c .before .before .before .before .pre .0, c .if4 .left)
 
-same-length : tie.Need-same-length
-same-length c = search needs
+still-requires-5 : tie.Need-still-requires-5
+still-requires-5 c κs = search needs
 
-same-length-2 : tie.Need-same-length-2
-same-length-2 c = search needs
+still-requires-6 : tie.Need-still-requires-6
+still-requires-6 c κs = search needs
 
 returns-5 : tie.Need-returns-5
-returns-5 c =
-    let a = c .before .before .before .before .before .before .before .before .before .args in
-    network-asked (a .c) (a .w) (a .mem .now) (a .room .now) (a .kind) (a .value .now) (c .before .before .before .before .before .match .keys1) (c .before .before .on-request-network .ensures)
-
-same-length-3 : tie.Need-same-length-3
-same-length-3 c = search needs
-
-same-length-4 : tie.Need-same-length-4
-same-length-4 c = search needs
+returns-5 c = network-asked (c .before .before .before .before .args .c) (c .before .before .before .before .args .t) (c .before .before .before .before .args .p) (c .before .before .before .before .args .d) (c .before .before .before .before .args .mem .now) (c .before .before .before .before .args .kind) (c .before .before .before .before .args .value .now) (c .before .match .keys1) (c .on-request-network .ensures (c .before .before .before .before .args .value .now) (c .before .before .before .before .args .p))
 
 returns-6 : tie.Need-returns-6
-returns-6 c =
-    let a = c .before .before .before .before .before .before .before .before .before .before .before .args in
-    node-asked (a .c) (a .w) (a .mem .now) (a .room .now) (a .kind) (a .value .now) (c .before .before .before .before .before .before .before .match .keys2) (c .before .before .before .before .before .before .if1 .left) (c .before .before .before .read-u32 .result) (c .before .before .before .read-u32 .ensures) (c .before .before .on-request-node .ensures)
-
-same-length-5 : tie.Need-same-length-5
-same-length-5 c = search needs
-
-same-length-6 : tie.Need-same-length-6
-same-length-6 c = search needs
+returns-6 c = node-asked (c .before .before .before .before .before .before .args .c) (c .before .before .before .before .before .before .args .t) (c .before .before .before .before .before .before .args .p) (c .before .before .before .before .before .before .args .d) (c .before .before .before .before .before .before .args .mem .now) (c .before .before .before .before .before .before .args .kind) (c .before .before .before .before .before .before .args .value .now) (c .before .before .before .match .keys2) (c .before .before .if1 .left) (c .before .read-u32 .result) (c .before .read-u32 .ensures) (c .on-request-node .ensures (c .before .before .before .before .before .before .args .value .now) (c .before .before .before .before .before .before .args .p))
 
 returns-7 : tie.Need-returns-7
-returns-7 c =
-    let a = c .before .before .before .before .before .before .before .before .before .before .before .before .before .before .args in
-    endpoint-met (a .c) (a .w) (a .mem .now) (a .room .now) (a .kind) (a .value .now) (c .before .before .before .before .before .before .before .before .before .before .match .keys3) (c .before .before .before .before .before .before .before .before .before .if2 .left) (c .before .before .before .before .before .before .read-u322 .result) (c .before .before .before .before .before .read-u323 .result) (c .before .before .before .before .before .before .read-u322 .ensures) (c .before .before .before .before .before .read-u323 .ensures) (c .before .before .before .before .on-endpoint .ensures)
-
-same-length-7 : tie.Need-same-length-7
-same-length-7 c = search needs
-
-same-length-8 : tie.Need-same-length-8
-same-length-8 c = search needs
+returns-7 c = endpoint-met (c .before .before .before .before .before .before .before .args .c) (c .before .before .before .before .before .before .before .args .t) (c .before .before .before .before .before .before .before .args .p) (c .before .before .before .before .before .before .before .args .d) (c .before .before .before .before .before .before .before .args .mem .now) (c .before .before .before .before .before .before .before .args .kind) (c .before .before .before .before .before .before .before .args .value .now) (c .before .before .before .before .match .keys3) (c .before .before .before .if2 .left) (c .before .before .read-u322 .result) (c .before .read-u323 .result) (c .before .before .read-u322 .ensures) (c .before .read-u323 .ensures) (c .on-endpoint .ensures (c .before .before .before .before .before .before .before .args .value .now))
 
 returns-8 : tie.Need-returns-8
-returns-8 c =
-    let a = c .before .before .before .before .before .before .before .before .before .before .before .args in
-    network-met (a .c) (a .w) (a .mem .now) (a .room .now) (a .kind) (a .value .now) (c .before .before .before .before .before .before .before .match .keys4) (c .before .before .before .before .before .before .if3 .left) _ refl (c .before .before .on-network .ensures)
-
-same-length-9 : tie.Need-same-length-9
-same-length-9 c = search needs
-
-same-length-10 : tie.Need-same-length-10
-same-length-10 c = search needs
+returns-8 c = network-met (c .before .before .before .before .before .before .args .c) (c .before .before .before .before .before .before .args .t) (c .before .before .before .before .before .before .args .p) (c .before .before .before .before .before .before .args .d) (c .before .before .before .before .before .before .args .mem .now) (c .before .before .before .before .before .before .args .kind) (c .before .before .before .before .before .before .args .value .now) (c .before .before .before .match .keys4) (c .before .before .if3 .left) _ refl (c .on-network .ensures (c .before .before .before .before .before .before .args .value .now) (c .before .before .before .before .before .before .args .p))
 
 returns-9 : tie.Need-returns-9
-returns-9 c =
-    let a = c .before .before .before .before .before .before .before .before .before .before .before .before .args in
-    state-met (a .c) (a .w) (a .mem .now) (a .room .now) (a .kind) (a .value .now) (c .before .before .before .before .before .before .before .before .match .keys5) (c .before .before .before .before .before .before .before .if4 .left) (c .before .before .before .before .on-state .ensures)
+returns-9 c = state-met (c .before .before .before .before .before .args .c) (c .before .before .before .before .before .args .t) (c .before .before .before .before .before .args .p) (c .before .before .before .before .before .args .d) (c .before .before .before .before .before .args .mem .now) (c .before .before .before .before .before .args .kind) (c .before .before .before .before .before .args .value .now) (c .before .before .match .keys5) (c .before .if4 .left) (c .on-state .ensures (c .before .before .before .before .before .args .p))
 
 returns-10 : tie.Need-returns-10
 returns-10 c =
-    let a = c .before .before .before .before .before .before .args in
-    let o = c .before .before .match .rest in
-    other-type (a .c) (a .w) (a .mem .now) (a .room .now) (a .kind) (a .value .now) (c .before .before .before .before .before .before .pre) (o .0 .0 .0 .0 .1) (o .0 .0 .0 .1) (o .0 .0 .1) (o .0 .1) (o .1)
+    let o = c .before .before .before .match .rest in
+    rw (c .still5 .ensures) (other-type (c .before .before .before .before .before .before .args .c) (c .before .before .before .before .before .before .args .t) (c .before .before .before .before .before .before .args .p) (c .before .before .before .before .before .before .args .d) (c .before .before .before .before .before .before .args .mem .now) (c .before .before .before .before .before .before .args .kind) (c .before .before .before .before .before .before .args .value .now) (o .0 .0 .0 .0 .1) (o .0 .0 .0 .1) (o .0 .0 .1) (o .0 .1) (o .1))
 
 returns-11 : tie.Need-returns-11
 returns-11 c =
-    let a = c .before .before .before .before .before .args in
-    let o = c .before .match .rest in
-    other-type (a .c) (a .w) (a .mem .now) (a .room .now) (a .kind) (a .value .now) (c .before .before .before .before .before .pre) (o .0 .0 .0 .0 .1) (o .0 .0 .0 .1) (o .0 .0 .1) (o .0 .1) (o .1)
-
-returns-12 : tie.Need-returns-12
-returns-12 c =
-    let a = c .before .before .before .before .before .before .args in
     let o = c .before .before .match .rest in
-    other-type (a .c) (a .w) (a .mem .now) (a .room .now) (a .kind) (a .value .now) (c .before .before .before .before .before .before .pre) (o .0 .0 .0 .0 .1) (o .0 .0 .0 .1) (o .0 .0 .1) (o .0 .1) (o .1)
+    rw (c .still6 .ensures) (other-type (c .before .before .before .before .before .args .c) (c .before .before .before .before .before .args .t) (c .before .before .before .before .before .args .p) (c .before .before .before .before .before .args .d) (c .before .before .before .before .before .args .mem .now) (c .before .before .before .before .before .args .kind) (c .before .before .before .before .before .args .value .now) (o .0 .0 .0 .0 .1) (o .0 .0 .0 .1) (o .0 .0 .1) (o .0 .1) (o .1))
 
 pub on-tlv-spec : {M : Type 1} → statement M
 on-tlv-spec =
     tie.close
     (tie.spec
     on-request-network-requires
+    still-requires
     returns
     read-u32-requires
     on-request-node-requires
+    still-requires-2
     returns-2
     read-u32-requires-2
     read-u32-requires-3
     on-endpoint-requires
+    still-requires-3
     returns-3
     sub-on-network
     part-on-network-start
     part-on-network-end
     on-network-requires
+    still-requires-4
     returns-4
     on-state-requires
-    same-length
-    same-length-2
+    still-requires-5
+    still-requires-6
     returns-5
-    same-length-3
-    same-length-4
     returns-6
-    same-length-5
-    same-length-6
     returns-7
-    same-length-7
-    same-length-8
     returns-8
-    same-length-9
-    same-length-10
     returns-9
     returns-10
-    returns-11
-    returns-12)
+    returns-11)

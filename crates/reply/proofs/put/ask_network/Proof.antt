@@ -3,15 +3,12 @@ use Rattle.reply.proofs.put.ask_network.Statement.{statement}
 use Rattle.reply.proofs.put.ask_network.Tie as tie
 use native.Mathlib.Omega.{arith}
 use Rattle.reply.proofs.Replies.{replied-as}
-use Rattle.reply.proofs.Asking.{request-bytes, ask-early, ask-omitted, ask-noted}
-
-endpoint-at-requires : tie.Need-endpoint-at-requires
-endpoint-at-requires c κs = search needs
+use Rattle.reply.proofs.Asking.{request-bytes, progress-early, progress-left-out, progress-asked}
 
 returns : tie.Need-returns
 returns c =
-    let a = c .before .before .before .before .before .before .args in
-    ask-early (a .c) (a .w) (a .mem .now) (a .room .now) (c .before .before .before .before .before .before .pre .sound) (c .before .before .before .endpoint-at .result) (c .before .before .before .endpoint-at .ensures (a .mem .now)) (c .if1 .taken)
+    let h = c .before .before .before .before .before .pre .1 .1 .1 .1 .1 in
+    progress-early (c .before .before .before .before .before .args .c) (h .0) (h .1) (c .before .before .before .before .before .args .d) (c .before .before .before .before .before .args .room .now) (c .before .before .before .before .before .pre .0) (c .before .before .before .before .before .pre .1 .1 .0) (c .if1 .taken)
 
 slice-aggregate-reply : tie.Need-slice-aggregate-reply
 slice-aggregate-reply c = search needs
@@ -33,40 +30,19 @@ same-length c = search needs
 
 returns-2 : tie.Need-returns-2
 returns-2 c =
-    let a = c .before .before .before .before .before .before .before .before .before .before .before .before .before .before .before .args in
-    ask-omitted (a .c) (a .w) (a .mem .now) (a .room .now) (c .before .before .before .before .before .before .before .before .before .before .before .before .before .before .before .pre .sound) (c .before .before .before .before .before .before .before .before .before .before .before .before .endpoint-at .result) (c .before .before .before .before .before .before .before .before .before .before .before .before .endpoint-at .ensures (a .mem .now)) (c .before .before .before .before .before .before .before .before .before .if1 .left) (c .before .before .before .before .before .reply .result) _
-    (replied-as (c .before .before .before .before .before .reply .ensures) request-bytes) (c .if2 .taken)
+    let h = c .before .before .before .before .before .before .before .before .before .before .before .before .before .before .pre .1 .1 .1 .1 .1 in
+    progress-left-out (c .before .before .before .before .before .before .before .before .before .before .before .before .before .before .args .c) (h .0) (h .1) (c .before .before .before .before .before .before .before .before .before .before .before .before .before .before .args .d) (c .before .before .before .before .before .before .before .before .before .before .before .before .before .before .args .room .now) (c .before .before .before .before .before .before .before .before .before .if1 .left) (c .before .before .before .before .before .reply .result) _ (replied-as (c .before .before .before .before .before .reply .ensures) request-bytes) (c .if2 .taken)
 
-add-has-asked : tie.Need-add-has-asked
-add-has-asked c = omega (arith, c .before .before .before .before .before .before .before .before .before .before .before .before .before .before .before .before .pre .clock)
-
-has-asked-requires : tie.Need-has-asked-requires
-has-asked-requires c κs = (c .before .before .before .before .before .before .reply .ensures .sound .rep .four, (c .before .before .before .before .before .before .before .before .before .before .before .before .before .before .before .before .pre .first, c .before .before .before .before .before .before .before .before .before .before .before .before .before .before .before .before .pre .fourth))
+add-e : tie.Need-add-e
+add-e c = omega (arith, c .before .before .before .before .before .before .before .before .before .before .before .before .before .before .before .before .pre .1 .1 .1 .1 .0)
 
 same-length-2 : tie.Need-same-length-2
 same-length-2 c = search needs
 
 returns-3 : tie.Need-returns-3
 returns-3 c =
-    let a = c .before .before .before .before .before .before .before .before .before .before .before .before .before .before .before .before .before .args in
-    let k = c .has-asked .ensures in
-    ask-noted (a .c) (a .w) (a .mem .now) (a .room .now) (c .before .before .before .before .before .before .before .before .before .before .before .before .before .before .before .before .before .pre .sound) (c .before .before .before .before .before .before .before .before .before .before .before .before .before .before .endpoint-at .result) (c .before .before .before .before .before .before .before .before .before .before .before .before .before .before .endpoint-at .ensures (a .mem .now)) (c .before .before .before .before .before .before .before .before .before .before .before .if1 .left) (c .before .before .before .before .before .before .before .reply .result) _
-    (replied-as (c .before .before .before .before .before .before .before .reply .ensures) request-bytes) (c .before .before .if2 .left) (c .has-asked .result) (k .0 (a .mem .now) (c .before .before .before .before .before .before .before .reply .ensures .sound .rep)) (k .1 .1) (k .1 .0)
+    let h = c .before .before .before .before .before .before .before .before .before .before .before .before .before .before .before .before .pre .1 .1 .1 .1 .1 in
+    progress-asked (c .before .before .before .before .before .before .before .before .before .before .before .before .before .before .before .before .args .c) (h .0) (h .1) (c .before .before .before .before .before .before .before .before .before .before .before .before .before .before .before .before .args .d) (c .before .before .before .before .before .before .before .before .before .before .before .before .before .before .before .before .args .room .now) (c .before .before .before .before .before .before .before .before .before .before .before .if1 .left) (c .before .before .before .before .before .before .before .reply .result) _ (replied-as (c .before .before .before .before .before .before .before .reply .ensures) request-bytes) (c .before .before .if2 .left)
 
 pub ask-network-spec : {M : Type 1} → statement M
-ask-network-spec =
-    tie.close
-    (tie.spec
-    endpoint-at-requires
-    returns
-    slice-aggregate-reply
-    sub-reply
-    part-reply-start
-    part-reply-end
-    reply-requires
-    same-length
-    returns-2
-    add-has-asked
-    has-asked-requires
-    same-length-2
-    returns-3)
+ask-network-spec = tie.close (tie.spec returns slice-aggregate-reply sub-reply part-reply-start part-reply-end reply-requires same-length returns-2 add-e same-length-2 returns-3)

@@ -21,7 +21,9 @@ part-reply-end : tie.Need-part-reply-end
 part-reply-end c = search needs
 
 reply-requires : tie.Need-reply-requires
-reply-requires c κs = search needs
+reply-requires c κs =
+    let h = c .before .before .before .before .before .before .pre in
+    (h .0, (h .1 .0, (h .1 .1 .0, (h .1 .1 .1, search needs))))
 
 same-length : tie.Need-same-length
 same-length c = search needs
@@ -30,14 +32,4 @@ returns : tie.Need-returns
 returns c = replied-as (c .before .before .reply .ensures) (append-nil (c .before .before .before .before .before .before .request-node-tlv .result) ∙ c .before .before .before .before .before .before .request-node-tlv .ensures)
 
 pub ask-node-spec : {M : Type 1} → statement M
-ask-node-spec =
-    tie.close
-    (tie.spec
-    request-node-tlv-requires
-    slice-aggregate-reply
-    sub-reply
-    part-reply-start
-    part-reply-end
-    reply-requires
-    same-length
-    returns)
+ask-node-spec = tie.close (tie.spec request-node-tlv-requires slice-aggregate-reply sub-reply part-reply-start part-reply-end reply-requires same-length returns)

@@ -1,12 +1,12 @@
 use Rattle.reply.proofs.put.head_size.Statement.{statement}
 use Rattle.reply.proofs.put.head_size.Tie as tie
-use Rattle.reply.proofs.Replies.{size-first, size-later}
+use native.Mathlib.Omega.{arith}
 
 returns : tie.Need-returns
-returns c = size-first (c .before .args .used) (c .if1 .taken)
+returns c = (rw (c .if1 .taken), omega arith)
 
 returns-2 : tie.Need-returns-2
-returns-2 c = size-later (c .before .args .used) (c .if1 .left)
+returns-2 c = (rw (c .if1 .left), omega arith)
 
 pub head-size-spec : {M : Type 1} → statement M
 head-size-spec = tie.close (tie.spec returns returns-2)

@@ -2,7 +2,7 @@ use borrow.Author.Needs.{needs}
 use Rattle.reply.proofs.put.reply.Statement.{statement}
 use Rattle.reply.proofs.put.reply.Tie as tie
 use native.Mathlib.Omega.{arith}
-use Rattle.reply.proofs.Replies.{replied-full, replied}
+use Rattle.reply.proofs.Replies.{progress-full, progress-written}
 
 head-size-requires : tie.Need-head-size-requires
 head-size-requires c κs = search needs
@@ -20,7 +20,7 @@ add-next : tie.Need-add-next
 add-next c = search needs
 
 returns : tie.Need-returns
-returns c = let a = c .before .before .before .before .before .before .before .args in replied-full (a .c) (a .w) (a .mem .now) (a .room .now) (c .before .before .before .before .before .before .before .pre .0) (a .front .now) (a .back .now) (c .before .before .head-size .result) (c .before .before .head-size .ensures .0) (c .before .if1 .taken)
+returns c = progress-full (c .before .before .before .before .before .before .args .c) (c .before .before .before .before .before .before .args .d) (c .before .before .before .before .before .before .args .room .now) (c .before .before .before .before .before .before .pre .0) (c .before .before .before .before .before .before .pre .1 .0) (c .before .before .before .before .before .before .pre .1 .1 .0) (c .before .before .before .before .before .before .args .front .now) (c .before .before .before .before .before .before .args .back .now) (c .before .before .head-size .result) (c .before .before .head-size .ensures .0) (c .before .if1 .taken)
 
 put-head-requires : tie.Need-put-head-requires
 put-head-requires c κs = search needs
@@ -41,22 +41,7 @@ same-length : tie.Need-same-length
 same-length c = search needs
 
 returns-2 : tie.Need-returns-2
-returns-2 c = let a = c .before .before .before .before .before .before .before .before .before .before .before .before .before .before .before .before .before .before .args in replied (a .c) (a .w) (a .mem .now) (a .room .now) (c .before .before .before .before .before .before .before .before .before .before .before .before .before .before .before .before .before .before .pre .0) (a .front .now) (a .back .now) (c .before .before .before .before .before .before .before .before .before .before .before .before .before .head-size .result) (c .before .before .before .before .before .before .before .before .before .before .before .before .before .head-size .ensures .0) (omega arith) (c .before .before .before .before .before .before .before .before .before .before .put-head .result) (c .before .before .before .before .before .before .before .before .before .before .put-head .ensures .0) _ _ _ (c .before .before .before .before .before .before .before .before .before .before .put-head .ensures .1) (c .before .before .before .before .before .before .store .ensures) (c .before .before .store2 .ensures)
+returns-2 c = progress-written (c .before .before .before .before .before .before .before .before .before .before .before .before .before .before .before .before .before .args .c) (c .before .before .before .before .before .before .before .before .before .before .before .before .before .before .before .before .before .args .d) (c .before .before .before .before .before .before .before .before .before .before .before .before .before .before .before .before .before .args .room .now) (c .before .before .before .before .before .before .before .before .before .before .before .before .before .before .before .before .before .pre .0) (c .before .before .before .before .before .before .before .before .before .before .before .before .before .before .before .before .before .pre .1 .0) (c .before .before .before .before .before .before .before .before .before .before .before .before .before .before .before .before .before .pre .1 .1 .0) (c .before .before .before .before .before .before .before .before .before .before .before .before .before .before .before .before .before .args .front .now) (c .before .before .before .before .before .before .before .before .before .before .before .before .before .before .before .before .before .args .back .now) (c .before .before .before .before .before .before .before .before .before .before .before .before .before .head-size .result) (c .before .before .before .before .before .before .before .before .before .before .before .before .before .head-size .ensures .0) (omega arith) (c .before .before .before .before .before .before .before .before .before .before .put-head .result) (c .before .before .before .before .before .before .before .before .before .before .put-head .ensures .0) _ _ _ (c .before .before .before .before .before .before .before .before .before .before .put-head .ensures .1) (c .before .before .before .before .before .before .store .ensures) (c .before .before .store2 .ensures) (search needs)
 
 pub reply-spec : {M : Type 1} → statement M
-reply-spec =
-    tie.close
-    (tie.spec
-    head-size-requires
-    add-need
-    add-need-2
-    sub-if1
-    add-next
-    returns
-    put-head-requires
-    add-mid
-    store-requires
-    store-requires-2
-    add-next-2
-    same-length
-    returns-2)
+reply-spec = tie.close (tie.spec head-size-requires add-need add-need-2 sub-if1 add-next returns put-head-requires add-mid store-requires store-requires-2 add-next-2 same-length returns-2)

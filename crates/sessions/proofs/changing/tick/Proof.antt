@@ -5,7 +5,6 @@ use native.Mathlib.Omega.{arith}
 use lib.ListN.{drop}
 use Rattle.sessions.proofs.Fronts.{counted, within-front, counted-front}
 use Rattle.sessions.proofs.Going.{sends-goes, tick-room}
-use borrow.Author.Needs.{needs}
 
 large-buffer-requires : tie.Need-large-buffer-requires
 large-buffer-requires c κs = search needs
@@ -13,11 +12,11 @@ large-buffer-requires c κs = search needs
 array-borrow-prefix-room : tie.Need-array-borrow-prefix-room
 array-borrow-prefix-room c = search needs
 
-slice-aggregate-tick : tie.Need-slice-aggregate-tick
-slice-aggregate-tick c = counted (c .before .before .before .before .args .reply) (c .before .before .large-buffer .result) (omega arith)
+slice-aggregate-pingvratha-tick : tie.Need-slice-aggregate-pingvratha-tick
+slice-aggregate-pingvratha-tick c = counted (c .before .before .before .before .args .reply) (c .before .before .large-buffer .result) (omega arith)
 
-array-read-tick : tie.Need-array-read-tick
-array-read-tick c = search needs
+array-read-pingvratha-tick : tie.Need-array-read-pingvratha-tick
+array-read-pingvratha-tick c = search needs
 
 array-read-small : tie.Need-array-read-small
 array-read-small c = search needs
@@ -25,44 +24,33 @@ array-read-small c = search needs
 small-requires : tie.Need-small-requires
 small-requires c κs = search needs
 
-randoms-requires : tie.Need-randoms-requires
-randoms-requires c κs = search needs
+four-requires : tie.Need-four-requires
+four-requires c κs = search needs
 
-tick-requires : tie.Need-tick-requires
-tick-requires c κs = search needs
+pingvratha-tick-requires : tie.Need-pingvratha-tick-requires
+pingvratha-tick-requires c κs = search needs
 
-slice-aggregate-labelled-word : tie.Need-slice-aggregate-labelled-word
-slice-aggregate-labelled-word c = search needs
-
-labelled-word-requires : tie.Need-labelled-word-requires
-labelled-word-requires c κs = search needs
-
-slice-aggregate-labelled-size : tie.Need-slice-aggregate-labelled-size
-slice-aggregate-labelled-size c = search needs
-
-labelled-size-requires : tie.Need-labelled-size-requires
-labelled-size-requires c κs = search needs
-
-slice-aggregate-labelled-bytes : tie.Need-slice-aggregate-labelled-bytes
-slice-aggregate-labelled-bytes c = search needs
+slice-aggregate-line-of-bytes : tie.Need-slice-aggregate-line-of-bytes
+slice-aggregate-line-of-bytes c = search needs
 
 array-share-prefix-room : tie.Need-array-share-prefix-room
-array-share-prefix-room c = within-front (c .before .before .before .before .before .before .before .before .tick .result .length) (c .before .before .before .before .before .before .before .before .tick .last .1 .1 .0) (drop (c .before .before .before .before .before .before .before .before .before .before .before .before .before .before .before .args .reply) (c .before .before .before .before .before .before .before .before .before .before .before .before .before .large-buffer .result)) (c .before .before .before .before .before .before .before .before .tick .ensures .within)
+array-share-prefix-room c =
+    let r = c .before .before .before .before .pingvratha-tick in
+    within-front (r .result .length) (r .last .1 .1 .0) (drop (c .before .before .before .before .before .before .before .before .before .before .before .before .args .reply) (c .before .before .before .before .before .before .before .before .before .before .large-buffer .result)) (r .ensures .within)
 
-slice-aggregate-labelled-bytes-2 : tie.Need-slice-aggregate-labelled-bytes-2
-slice-aggregate-labelled-bytes-2 c = counted-front (c .before .before .before .before .before .before .before .before .before .tick .result .length) (c .before .before .before .before .before .before .before .before .before .tick .last .1 .1 .0) (drop (c .before .before .before .before .before .before .before .before .before .before .before .before .before .before .before .before .args .reply) (c .before .before .before .before .before .before .before .before .before .before .before .before .before .before .large-buffer .result)) (c .before .before .before .before .before .before .before .before .before .tick .ensures .within)
+slice-aggregate-line-of-bytes-2 : tie.Need-slice-aggregate-line-of-bytes-2
+slice-aggregate-line-of-bytes-2 c =
+    let r = c .before .before .before .before .before .pingvratha-tick in
+    counted-front (r .result .length) (r .last .1 .1 .0) (drop (c .before .before .before .before .before .before .before .before .before .before .before .before .before .args .reply) (c .before .before .before .before .before .before .before .before .before .before .before .large-buffer .result)) (r .ensures .within)
 
-labelled-bytes-requires : tie.Need-labelled-bytes-requires
-labelled-bytes-requires c κs = search needs
-
-end-requires : tie.Need-end-requires
-end-requires c κs = search needs
+line-of-bytes-requires : tie.Need-line-of-bytes-requires
+line-of-bytes-requires c κs = search needs
 
 same-length : tie.Need-same-length
 same-length c = search needs
 
 returns : tie.Need-returns
-returns c = sends-goes (c .before .before .before .before .before .before .before .before .before .before .before .before .tick .ensures) (tick-room _ _ _ _ _ _)
+returns c = sends-goes (c .before .before .before .before .before .before .before .pingvratha-tick .ensures) (tick-room _ _ _ _ _ _)
 
 pub tick-spec : {M : Type 1} → statement M
 tick-spec =
@@ -70,20 +58,15 @@ tick-spec =
     (tie.spec
     large-buffer-requires
     array-borrow-prefix-room
-    slice-aggregate-tick
-    array-read-tick
+    slice-aggregate-pingvratha-tick
+    array-read-pingvratha-tick
     array-read-small
     small-requires
-    randoms-requires
-    tick-requires
-    slice-aggregate-labelled-word
-    labelled-word-requires
-    slice-aggregate-labelled-size
-    labelled-size-requires
-    slice-aggregate-labelled-bytes
+    four-requires
+    pingvratha-tick-requires
+    slice-aggregate-line-of-bytes
     array-share-prefix-room
-    slice-aggregate-labelled-bytes-2
-    labelled-bytes-requires
-    end-requires
+    slice-aggregate-line-of-bytes-2
+    line-of-bytes-requires
     same-length
     returns)

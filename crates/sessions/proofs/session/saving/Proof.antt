@@ -6,7 +6,6 @@ use native.Mathlib.Omega.{arith}
 use lib.ListN.{drop}
 use Rattle.sessions.proofs.Fronts.{counted, within-front, counted-front, front-most}
 use Rattle.sessions.proofs.Lines.{table-lent, table-left, after-save}
-use borrow.Author.Needs.{needs}
 
 large-buffer-requires : tie.Need-large-buffer-requires
 large-buffer-requires c κs = search needs

@@ -3,37 +3,23 @@ use Rattle.sessions.proofs.showing.save.Statement.{statement}
 use Rattle.sessions.proofs.showing.save.Tie as tie
 use mathlib.Core.Path.{sym}
 use lib.Seq.{length-take-le}
-use borrow.Author.Needs.{needs}
 
-save-requires : tie.Need-save-requires
-save-requires c κs = search needs
+pingvratha-save-requires : tie.Need-pingvratha-save-requires
+pingvratha-save-requires c κs = search needs
 
-slice-aggregate-labelled-word : tie.Need-slice-aggregate-labelled-word
-slice-aggregate-labelled-word c = search needs
+slice-aggregate-line-of-bytes : tie.Need-slice-aggregate-line-of-bytes
+slice-aggregate-line-of-bytes c = search needs
 
-labelled-word-requires : tie.Need-labelled-word-requires
-labelled-word-requires c κs = search needs
+slice-reshare-prefix-line-of-bytes : tie.Need-slice-reshare-prefix-line-of-bytes
+slice-reshare-prefix-line-of-bytes c = search needs
 
-slice-aggregate-labelled-size : tie.Need-slice-aggregate-labelled-size
-slice-aggregate-labelled-size c = search needs
+slice-aggregate-line-of-bytes-2 : tie.Need-slice-aggregate-line-of-bytes-2
+slice-aggregate-line-of-bytes-2 c =
+    let r = c .before .before .before .before .pingvratha-save in
+    sym (length-take-le (r .result .length) (r .last .1 .1 .0) (r .ensures .within))
 
-labelled-size-requires : tie.Need-labelled-size-requires
-labelled-size-requires c κs = search needs
-
-slice-aggregate-labelled-bytes : tie.Need-slice-aggregate-labelled-bytes
-slice-aggregate-labelled-bytes c = search needs
-
-slice-reshare-prefix-labelled-bytes : tie.Need-slice-reshare-prefix-labelled-bytes
-slice-reshare-prefix-labelled-bytes c = search needs
-
-slice-aggregate-labelled-bytes-2 : tie.Need-slice-aggregate-labelled-bytes-2
-slice-aggregate-labelled-bytes-2 c = sym (length-take-le (c .before .before .before .before .before .before .before .before .save .result .length) (c .before .before .before .before .before .before .before .before .save .last .1 .1 .0) (c .before .before .before .before .before .before .before .before .save .ensures .within))
-
-labelled-bytes-requires : tie.Need-labelled-bytes-requires
-labelled-bytes-requires c κs = search needs
-
-end-requires : tie.Need-end-requires
-end-requires c κs = search needs
+line-of-bytes-requires : tie.Need-line-of-bytes-requires
+line-of-bytes-requires c κs = search needs
 
 same-length : tie.Need-same-length
 same-length c = search needs
@@ -45,15 +31,10 @@ pub save-spec : {M : Type 1} → statement M
 save-spec =
     tie.close
     (tie.spec
-    save-requires
-    slice-aggregate-labelled-word
-    labelled-word-requires
-    slice-aggregate-labelled-size
-    labelled-size-requires
-    slice-aggregate-labelled-bytes
-    slice-reshare-prefix-labelled-bytes
-    slice-aggregate-labelled-bytes-2
-    labelled-bytes-requires
-    end-requires
+    pingvratha-save-requires
+    slice-aggregate-line-of-bytes
+    slice-reshare-prefix-line-of-bytes
+    slice-aggregate-line-of-bytes-2
+    line-of-bytes-requires
     same-length
     returns)

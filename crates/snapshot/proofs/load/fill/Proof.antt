@@ -63,9 +63,6 @@ part-bytes-start c = search needs
 part-bytes-end : tie.Need-part-bytes-end Inv-loop μ-loop
 part-bytes-end c = omega (arith, entry-got (c .before) .within)
 
-cast-insert : tie.Need-cast-insert Inv-loop μ-loop
-cast-insert c = omega (arith, entry-got (c .before .before .before) .ageFits)
-
 hash16-requires : tie.Need-hash16-requires Inv-loop μ-loop
 hash16-requires c κs = search needs
 
@@ -133,7 +130,6 @@ fill-spec =
     sub-bytes
     part-bytes-start
     part-bytes-end
-    cast-insert
     hash16-requires
     insert-requires
     cast-low

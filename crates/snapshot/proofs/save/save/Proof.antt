@@ -87,9 +87,9 @@ save-entry-requires c κs =
     let p = c .before .before .before .before .before .before .before .before .before .before .before .before .before .before .before .before .before .before .before .pre in
     let k = c .before .before .before .before .before .before .before .put-groups3 in
     let l = c .before .before .before .before .loop in (
-      meta-fits (a .t1) (a .mem .now) (l .i) (p .0) (c .before .before .before .loop-test .taken) _ (c .before .bytes-of .ensures) (a .own) (a .clock) (p .1 .0),
+      meta-fits (a .t1) (a .mem .now) (l .i) (p .0) (c .before .before .before .loop-test .taken) _ (c .before .bytes-of .ensures .0) (a .own) (a .clock) (p .1 .0),
       (
-        row-size (a .t1) (a .mem .now) (l .i) (p .0) (c .before .before .before .loop-test .taken) _ (c .before .bytes-of .ensures),
+        row-size (a .t1) (a .mem .now) (l .i) (p .0) (c .before .before .before .loop-test .taken) _ (c .before .bytes-of .ensures .0),
         (
           p .1 .1 .0,
           through-room (a .own) (a .clock) (view (a .t1) (a .mem .now)) (p .1 .0) (k .last .0) (k .result) (head-low (c .before .before .before .before .before .before .before)) (head-room (c .before .before .before .before .before .before .before)) (l .room) (l .at) (l .i) (l .inv) (rw (entries (c .before .before .before .before .before .before .before .before .before .before .before .before .before .before .before .before .before .before .before)) (c .before .before .before .loop-test .taken)),
@@ -109,7 +109,7 @@ loop-again c =
     let k = c .before .before .before .before .before .before .before .before .before .before .put-groups3 in
     let l = c .before .before .before .before .before .before .before .loop in
     let s = c .before .before .save-entry in
-    let e = entry-seen (a .t1) (a .mem .now) (l .i) (c .before .before .before .before .before .before .before .before .before .before .before .before .before .before .before .before .before .before .before .before .before .before .pre .0) (c .before .before .before .before .before .before .loop-test .taken) _ (c .before .before .before .before .bytes-of .ensures) in
+    let e = entry-seen (a .t1) (a .mem .now) (l .i) (c .before .before .before .before .before .before .before .before .before .before .before .before .before .before .before .before .before .before .before .before .before .before .pre .0) (c .before .before .before .before .before .before .loop-test .taken) _ (c .before .before .before .before .bytes-of .ensures .0) in
     through-next (a .own) (a .clock) (view (a .t1) (a .mem .now)) (c .before .before .before .before .before .before .before .before .before .before .before .before .before .before .before .before .before .before .before .before .before .before .pre .1 .0) (k .last .0) (k .result) (head-low (c .before .before .before .before .before .before .before .before .before .before)) (head-room (c .before .before .before .before .before .before .before .before .before .before)) (l .room) (l .at) (l .i) (l .inv)
     (s .last .1 .1 .1 .0) (s .result) (rw (entries (c .before .before .before .before .before .before .before .before .before .before .before .before .before .before .before .before .before .before .before .before .before .before)) (c .before .before .before .before .before .before .loop-test .taken)) (rw e (s .ensures .0)) (rw e (s .ensures .1))
 

@@ -4,7 +4,7 @@ use Rattle.snapshot.proofs.save.save_entry.Statement.{statement}
 use Rattle.snapshot.proofs.save.save_entry.Tie as tie
 use native.Mathlib.Omega.{arith}
 use mathlib.Core.Path.{_≡_}
-use Prim.Native.Nat.{_+_, _≤_}
+use Prim.Native.Nat.{_+_, _-_, _≤_}
 use lib.ListN.{length}
 use Rattle.wire.specs.Groups.{groups}
 use Rattle.snapshot.proofs.Saving.{Short, short-row, short-age, meta-saved}
@@ -12,18 +12,19 @@ use Rattle.snapshot.proofs.Saving.{Short, short-row, short-age, meta-sa
 short : (c : tie.Start) → Short (c .args .e) (c .args .bytes .now)
 short c = short-row (c .args .clock) (c .args .e) (c .args .bytes .now) (c .pre .0) (c .pre .1 .0)
 
-aged : (c : tie.After-capped) → length (groups (c .capped .result)) ≤ 5
-aged c = short-age (c .before .age-at .result) (c .capped .result) (c .capped .ensures)
+aged : (c : tie.After-capped-age) → length (groups (c .capped-age .result)) ≤ 5
+aged c = let a = c .before .before .before .before .before .before .before .before .before .before .before .before .before .before .args in short-age (a .e .age + (a .clock - a .e .since)) (c .capped-age .result) (c .capped-age .ensures)
 
 -- the data ends inside the room
 inside : (c : tie.After-put-groups4) → (c .put-groups4 .result + length (c .before .before .before .before .before .before .before .before .before .before .before .before .before .before .before .before .before .before .before .before .args .bytes .now) ≤ length (c .put-groups4 .last .0)) × (length (c .put-groups4 .last .0) ≡ length (c .before .before .before .before .before .before .before .before .before .before .before .before .before .before .before .before .before .before .before .before .args .room .now))
 inside c =
     let k1 = c .before .before .before .before .before .before .before .before .before .before .before .before .before .before .before .put-groups in
     let k2 = c .before .before .before .before .before .before .before .before .before .before .put-groups2 in
-    let k3 = c .before .before .before .before .put-groups3 in
+    let k3 = c .before .before .before .before .before .put-groups3 in
     let k4 = c .put-groups4 in
+    let b = short (c .before .before .before .before .before .before .before .before .before .before .before .before .before .before .before .before .before .before .before .before) in
     let l : length (c .put-groups4 .last .0) ≡ length (c .before .before .before .before .before .before .before .before .before .before .before .before .before .before .before .before .before .before .before .before .args .room .now) = omega arith in
-    (omega (arith, l, short (c .before .before .before .before .before .before .before .before .before .before .before .before .before .before .before .before .before .before .before .before) .id, short (c .before .before .before .before .before .before .before .before .before .before .before .before .before .before .before .before .before .before .before .before) .seq, short (c .before .before .before .before .before .before .before .before .before .before .before .before .before .before .before .before .before .before .before .before) .size, short (c .before .before .before .before .before .before .before .before .before .before .before .before .before .before .before .before .before .before .before .before) .most, aged (c .before .before .before .before .before), c .before .before .before .before .before .before .before .before .before .before .before .before .before .before .before .before .before .before .before .before .pre .1 .1 .1), l)
+    (omega (arith, l, b .id, b .seq, b .size, b .most, aged (c .before .before .before .before .before .before), c .before .before .before .before .before .before .before .before .before .before .before .before .before .before .before .before .before .before .before .before .pre .1 .1 .1), l)
 
 cast-put-groups : tie.Need-cast-put-groups
 cast-put-groups c = search needs
@@ -35,19 +36,22 @@ cast-put-groups-2 : tie.Need-cast-put-groups-2
 cast-put-groups-2 c = search needs
 
 put-groups-requires-2 : tie.Need-put-groups-requires-2
-put-groups-requires-2 c κs = omega (arith, short (c .before .before .before .before .before .before .before .before .before) .id, short (c .before .before .before .before .before .before .before .before .before) .seq, c .before .before .before .before .before .before .before .before .before .pre .1 .1 .1)
+put-groups-requires-2 c κs = let b = short (c .before .before .before .before .before .before .before .before .before) in omega (arith, b .id, b .seq, c .before .before .before .before .before .before .before .before .before .pre .1 .1 .1)
 
-age-at-requires : tie.Need-age-at-requires
-age-at-requires c κs = (c .before .before .before .before .before .before .before .before .before .before .before .before .before .pre .0 .since, (c .before .before .before .before .before .before .before .before .before .before .before .before .before .pre .0 .age, c .before .before .before .before .before .before .before .before .before .before .before .before .before .pre .1 .1 .0))
+capped-age-requires : tie.Need-capped-age-requires
+capped-age-requires c κs = search needs
 
-capped-requires : tie.Need-capped-requires
-capped-requires c κs = search needs
+cast-put-groups-3 : tie.Need-cast-put-groups-3
+cast-put-groups-3 c = search needs
 
 put-groups-requires-3 : tie.Need-put-groups-requires-3
-put-groups-requires-3 c κs = omega (arith, short (c .before .before .before .before .before .before .before .before .before .before .before .before .before .before .before) .id, short (c .before .before .before .before .before .before .before .before .before .before .before .before .before .before .before) .seq, aged c, c .before .before .before .before .before .before .before .before .before .before .before .before .before .before .before .pre .1 .1 .1)
+put-groups-requires-3 c κs = let b = short (c .before .before .before .before .before .before .before .before .before .before .before .before .before .before) in omega (arith, b .id, b .seq, aged c, c .before .before .before .before .before .before .before .before .before .before .before .before .before .before .pre .1 .1 .1)
+
+cast-put-groups-4 : tie.Need-cast-put-groups-4
+cast-put-groups-4 c = search needs
 
 put-groups-requires-4 : tie.Need-put-groups-requires-4
-put-groups-requires-4 c κs = omega (arith, short (c .before .before .before .before .before .before .before .before .before .before .before .before .before .before .before .before .before .before .before) .id, short (c .before .before .before .before .before .before .before .before .before .before .before .before .before .before .before .before .before .before .before) .seq, short (c .before .before .before .before .before .before .before .before .before .before .before .before .before .before .before .before .before .before .before) .size, aged (c .before .before .before .before), c .before .before .before .before .before .before .before .before .before .before .before .before .before .before .before .before .before .before .before .pre .1 .1 .1)
+put-groups-requires-4 c κs = let b = short (c .before .before .before .before .before .before .before .before .before .before .before .before .before .before .before .before .before .before .before) in omega (arith, b .id, b .seq, b .size, aged (c .before .before .before .before .before), c .before .before .before .before .before .before .before .before .before .before .before .before .before .before .before .before .before .before .before .pre .1 .1 .1)
 
 store-requires : tie.Need-store-requires
 store-requires c κs = inside (c .before .before .before) .0
@@ -63,11 +67,13 @@ returns c =
     let a = c .before .before .before .before .before .before .before .before .before .before .before .before .before .before .before .before .before .before .before .before .before .before .before .before .before .before .args in
     let k1 = c .before .before .before .before .before .before .before .before .before .before .before .before .before .before .before .before .before .before .before .before .before .put-groups in
     let k2 = c .before .before .before .before .before .before .before .before .before .before .before .before .before .before .before .before .put-groups2 in
-    let k3 = c .before .before .before .before .before .before .before .before .before .before .put-groups3 in
+    let g = c .before .before .before .before .before .before .before .before .before .before .before .before .capped-age in
+    let k3 = c .before .before .before .before .before .before .before .before .before .before .before .put-groups3 in
     let k4 = c .before .before .before .before .before .before .put-groups4 in
-    meta-saved (a .e) (a .bytes .now) (a .clock) (a .at) (a .room .now) (k1 .last .0) (k2 .last .0) (k3 .last .0) (k4 .last .0) (c .before .before .store .last .0) (k1 .result) (k2 .result) (k3 .result) (k4 .result)
-    (c .before .before .before .before .before .before .before .before .before .before .before .before .age-at .result) (c .before .before .before .before .before .before .before .before .before .before .before .capped .result) (k1 .ensures .0) (k1 .ensures .1) (k2 .ensures .0) (k2 .ensures .1) (c .before .before .before .before .before .before .before .before .before .before .before .before .age-at .ensures) (c .before .before .before .before .before .before .before .before .before .before .before .capped .ensures) (k3 .ensures .0) (k3 .ensures .1)
-    (k4 .ensures .0) (k4 .ensures .1) (c .before .before .before .before .before .before .before .before .before .before .before .before .before .before .before .before .before .before .before .before .before .before .before .before .before .before .pre .1 .0) (c .before .before .store .ensures) (omega (arith, inside (c .before .before .before .before .before .before) .0, inside (c .before .before .before .before .before .before) .1))
+    let w = c .before .before .store in
+    meta-saved (a .e) (a .bytes .now) (a .clock) (a .at) (a .room .now) (k1 .last .0) (k2 .last .0) (k3 .last .0) (k4 .last .0) (w .last .0) (k1 .result) (k2 .result) (k3 .result) (k4 .result) (g .result)
+    (k1 .ensures .0) (k1 .ensures .1) (k2 .ensures .0) (k2 .ensures .1) (g .ensures) (k3 .ensures .0) (k3 .ensures .1)
+    (k4 .ensures .0) (k4 .ensures .1) (c .before .before .before .before .before .before .before .before .before .before .before .before .before .before .before .before .before .before .before .before .before .before .before .before .before .before .pre .1 .0) (w .ensures) (omega (arith, inside (c .before .before .before .before .before .before) .0, inside (c .before .before .before .before .before .before) .1))
 
 pub save-entry-spec : {M : Type 1} → statement M
 save-entry-spec =
@@ -77,9 +83,10 @@ save-entry-spec =
     put-groups-requires
     cast-put-groups-2
     put-groups-requires-2
-    age-at-requires
-    capped-requires
+    capped-age-requires
+    cast-put-groups-3
     put-groups-requires-3
+    cast-put-groups-4
     put-groups-requires-4
     store-requires
     add-result

@@ -2,7 +2,7 @@ use borrow.Author.Needs.{needs}
 use mathlib.Core.Path.{ap, _∙_}
 use lib.Dec.{leb}
 use Rattle.model.specs.Figures.{refreshAge}
-use Rattle.upkeep.proofs.Leaving.{held-midway, meta-fits, meta-age}
+use Rattle.upkeep.proofs.Leaving.{held-midway, meta-since, meta-age}
 use Rattle.upkeep.proofs.silence.is_stale.Statement.{statement}
 use Rattle.upkeep.proofs.silence.is_stale.Tie as tie
 
@@ -10,7 +10,7 @@ own-place-requires : tie.Need-own-place-requires
 own-place-requires c κs =
     let a = c .before .args in
     let p = c .before .pre in
-    (p .0, held-midway (a .clock) (a .s) (a .mem .now) (p .1 .0))
+    (p .0 .table, held-midway (a .clock) (a .s) (a .mem .now) (p .1 .0))
 
 meta-at-requires : tie.Need-meta-at-requires
 meta-at-requires c κs = search needs
@@ -20,8 +20,7 @@ age-at-requires c κs =
     let a = c .before .before .before .args in
     let p = c .before .before .before .pre in
     let i = c .before .own-place in
-    let f = meta-fits (a .clock) (a .s) (a .mem .now) (i .result) (p .0) (i .ensures) (c .meta-at .result) (c .meta-at .ensures) (p .1 .0) in
-    (f .0, (f .1, p .1 .1))
+    (meta-since (a .clock) (a .s) (a .mem .now) (i .result) (p .0) (i .ensures) (c .meta-at .result) (c .meta-at .ensures) (p .1 .0), p .1 .1)
 
 returns : tie.Need-returns
 returns c =

@@ -21,10 +21,10 @@ same-length c = search needs
 
 returns : tie.Need-returns
 returns c =
-    let a = c .before .before .before .before .before .before .before .before .before .args in
-    let p = c .before .before .before .before .before .before .before .before .before .pre in
-    let d = c .before .before .before .before .before .before .drop-silent in
-    let f = c .before .before .reach in
+    let a = c .before .before .before .before .before .before .before .before .args in
+    let p = c .before .before .before .before .before .before .before .before .pre in
+    let d = c .before .before .before .before .before .drop-silent in
+    let f = c .before .reach in
     dropped-cleared (a .clock) (a .endpoint) (a .s) (a .mem .now) (p .1 .0) (d .result) (d .last .1 .0) (d .ensures) (a .randoms) (f .result .digest) (c .settle .result) (f .ensures .digest) (c .settle .ensures)
 
 pub cleared-spec : {M : Type 1} → statement M

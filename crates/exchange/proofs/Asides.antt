@@ -1,0 +1,97 @@
+-- Only a Network State TLV asks whether a Node State about another is in the datagram. Assumes nothing.
+use mathlib.Core.Path.{_≡_, refl, sym, ap, _∙_}
+use mathlib.Core.Bool.{Bool, true, false, cond}
+use mathlib.Core.List.{List, [], _∷_}
+use Prim.Native.Nat.{ℕ}
+use lib.Dec.{eqb}
+use borrow.Author.Tests.{eqb-true}
+use Rattle.base.proofs.Tests.{by-test}
+use Rattle.wire.specs.Row.{typeOf, valueOf}
+use Rattle.model.specs.Decide.{Received, Decision, decide}
+use Rattle.model.specs.Handle.{Context as ModelContext, Sender, Work as ModelWork, piece, reply, replies, askNetwork, touch, onRequestNetwork, onRequestNode, greet, onStranger, onEndpoint, onNetwork, onOwnState, carryOut, onState, onTlv, oneTlv}
+use Rattle.reply.specs.declared.Context.{Context}
+use Rattle.reply.specs.View.{contextOf, Work, workOf, Stepped, Open}
+use Rattle.table.specs.declared.Table.{Table}
+use Rattle.reply.specs.declared.Progress.{Progress}
+
+abbrev contextAt : ℕ → ℕ → Bool → Bool → ModelContext
+contextAt clock endpoint unicast others = record { clock = clock; endpoint = endpoint; unicast = unicast; others = others }
+
+module _ (clock endpoint : ℕ) (unicast a b : Bool) where
+  reply-same : (t : List ℕ) (w : ModelWork) → reply (contextAt clock endpoint unicast a) t w ≡ reply (contextAt clock endpoint unicast b) t w
+  unfolding reply piece
+  reply-same t w = refl
+
+  replies-same : (ts : List (List ℕ)) (w : ModelWork) → replies (contextAt clock endpoint unicast a) ts w ≡ replies (contextAt clock endpoint unicast b) ts w
+  unfolding replies
+  replies-same [] w = refl
+  replies-same (t ∷ ts) w =
+      replies-same ts (reply (contextAt clock endpoint unicast a) t w) ∙ ap (replies (contextAt clock endpoint unicast b) ts) (reply-same t w)
+
+  network-same : (w : ModelWork) → onRequestNetwork (contextAt clock endpoint unicast a) w ≡ onRequestNetwork (contextAt clock endpoint unicast b) w
+  unfolding onRequestNetwork
+  network-same w = replies-same _ w
+
+  node-same : (n : ℕ) (w : ModelWork) → onRequestNode (contextAt clock endpoint unicast a) n w ≡ onRequestNode (contextAt clock endpoint unicast b) n w
+  unfolding onRequestNode reply piece
+  node-same n w = refl
+
+  endpoint-same : (f : Sender) (w : ModelWork) → onEndpoint (contextAt clock endpoint unicast a) f w ≡ onEndpoint (contextAt clock endpoint unicast b) f w
+  unfolding onEndpoint onStranger greet askNetwork reply piece
+  endpoint-same f w = refl
+
+  carry-same : (d : Decision) (w : ModelWork) → carryOut (contextAt clock endpoint unicast a) d w ≡ carryOut (contextAt clock endpoint unicast b) d w
+  unfolding carryOut
+  carry-same Decision.ignored w = refl
+  carry-same (Decision.ask n) w = reply-same _ w
+  carry-same (Decision.takeNumber e) w = refl
+  carry-same (Decision.takeAll e) w = refl
+  carry-same Decision.dropped w = refl
+
+  state-same : (r : Received) (w : ModelWork) → onState (contextAt clock endpoint unicast a) r w ≡ onState (contextAt clock endpoint unicast b) r w
+  unfolding onState onOwnState
+  state-same r w =
+      ap (cond (eqb (r .node) (w .state .own)) (onOwnState (contextAt clock endpoint unicast b) r w)) (carry-same (decide clock (w .state .table) r) w)
+
+  others-same : (kind : ℕ) (v : List ℕ) (w : ModelWork) → eqb kind 4 ≡ false → onTlv (contextAt clock endpoint unicast a) kind v w ≡ onTlv (contextAt clock endpoint unicast b) kind v w
+  unfolding onTlv
+  others-same kind v w z = rw (z, network-same w, node-same _ w, endpoint-same _ w, state-same _ w)
+
+  tlv-same : (kind : ℕ) (v : List ℕ) (w : ModelWork) → (kind ≡ 4 → a ≡ b) → onTlv (contextAt clock endpoint unicast a) kind v w ≡ onTlv (contextAt clock endpoint unicast b) kind v w
+  tlv-same kind v w e = by-test (eqb kind 4) (λ z. rw (e (eqb-true kind 4 z))) (others-same kind v w)
+
+  one-same : (t : List ℕ) (w : ModelWork) → (typeOf t ≡ 4 → a ≡ b) → oneTlv (contextAt clock endpoint unicast a) t w ≡ oneTlv (contextAt clock endpoint unicast b) t w
+  unfolding oneTlv touch
+  one-same t w e = rw (tlv-same (typeOf t) (valueOf t) w e)
+
+-- so a step with another answer to that is the same step
+pub aside : {c : Context} (x : Bool) {k : ℕ} (t : List ℕ) {w : Work} {m r : List ℕ} {w′ : Work} {m′ r′ : List ℕ} → Stepped c k (oneTlv (contextOf c) t) w m r w′ m′ r′ → (typeOf t ≡ 4 → c .others ≡ x)
+    → let g : Context = record { own = c .own; clock = c .clock; endpoint = c .endpoint; unicast = c .unicast; others = x } in Stepped g k (oneTlv (contextOf g) t) w m r w′ m′ r′
+aside {c} x t {w = w} {m = m} {r = r} s e =
+    record {
+      is = s .is ∙ one-same (c .clock) (c .endpoint) (c .unicast) (c .others) x t (workOf w m r) e;
+      sound = s .sound;
+      omitted = s .omitted;
+      dropped = s .dropped;
+      wrote = s .wrote;
+      size = s .size;
+      beyond = s .beyond;
+      room = s .room;
+      onward = s .onward;
+      rest = s .rest;
+    }
+
+-- nor do the parts ask
+pub open-aside : {c : Context} (x : Bool) {t : Table} {d : Progress} {m r : List ℕ} → Open c t d m r
+    → let g : Context = record { own = c .own; clock = c .clock; endpoint = c .endpoint; unicast = c .unicast; others = x } in Open g t d m r
+open-aside x h =
+    record {
+      marks = record { kept = h .marks .kept; fits = h .marks .fits; clock = h .marks .clock; cached = h .marks .cached };
+      used = h .used;
+      room = h .room;
+      headed = h .headed;
+      omitted = h .omitted;
+      dropped = h .dropped;
+      first = h .first;
+      fourth = h .fourth;
+    }

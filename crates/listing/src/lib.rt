@@ -1,0 +1,3 @@
+// A node's answers and its whole state as lines of a session.
+pub mod answers;
+pub mod states;

@@ -1,0 +1,47 @@
+use borrow.Author.Needs.{needs}
+use Rattle.reply.proofs.tell.tell_node.Statement.{statement}
+use Rattle.reply.proofs.tell.tell_node.Tie as tie
+use native.Mathlib.Omega.{arith}
+use Rattle.reply.proofs.Replies.{replied-as}
+use Rattle.reply.proofs.States.{front-fits, front-whole, front-room, data-room}
+use Rattle.reply.proofs.Answers.{markable-readable}
+
+meta-at-requires : tie.Need-meta-at-requires
+meta-at-requires c κs = search needs
+
+node-state-front-requires : tie.Need-node-state-front-requires
+node-state-front-requires c κs = front-fits (c .before .before .before .args .c .clock) (c .before .before .before .args .t) (c .before .before .before .args .mem .now) (markable-readable (c .before .before .before .pre .0 .marks)) (c .before .before .before .args .i) (c .before .before .before .pre .1) (c .meta-at .result) (c .meta-at .ensures) (c .meta-at .result .len) (c .meta-at .ensures .short)
+
+slice-aggregate-reply : tie.Need-slice-aggregate-reply
+slice-aggregate-reply c = search needs
+
+data-of-requires : tie.Need-data-of-requires
+data-of-requires c κs = search needs
+
+reply-requires : tie.Need-reply-requires
+reply-requires c κs =
+    let g = markable-readable (c .before .before .before .before .before .before .before .pre .0 .marks) in (
+      c .before .before .before .before .before .before .before .pre .0 .used,
+      (
+        c .before .before .before .before .before .before .before .pre .0 .room,
+        (
+          c .before .before .before .before .before .before .before .pre .0 .headed,
+          (
+            omega (arith, c .before .before .before .before .before .before .before .pre .0 .omitted),
+            front-room (c .before .before .before .before .before .before .before .args .c .clock) (c .before .before .before .before .before .before .before .args .t) (c .before .before .before .before .before .before .before .args .mem .now) g (c .before .before .before .before .before .before .before .args .i) (c .before .before .before .before .before .before .before .pre .1) (c .before .before .before .before .meta-at .result) (c .before .before .before .before .meta-at .ensures) (c .before .before .before .node-state-front .result) (c .data-of .result .now) (c .before .before .before .before .meta-at .result .len) (c .before .before .before .node-state-front .ensures)
+                (data-room (c .before .before .before .before .before .before .before .args .c .clock) (c .before .before .before .before .before .before .before .args .t) (c .before .before .before .before .before .before .before .args .mem .now) g (c .before .before .before .before .before .before .before .args .i) (c .before .before .before .before .before .before .before .pre .1) (c .before .before .before .before .meta-at .result) (c .before .before .before .before .meta-at .ensures) (c .data-of .result .now) (c .data-of .ensures .0)),
+          ),
+        ),
+      ),
+    )
+
+same-length : tie.Need-same-length
+same-length c = search needs
+
+returns : tie.Need-returns
+returns c =
+    replied-as (c .before .before .reply .ensures)
+    (front-whole (c .before .before .before .before .before .before .before .before .before .before .args .c .clock) (c .before .before .before .before .before .before .before .before .before .before .args .t) (c .before .before .before .before .before .before .before .before .before .before .args .mem .now) (markable-readable (c .before .before .before .before .before .before .before .before .before .before .pre .0 .marks)) (c .before .before .before .before .before .before .before .before .before .before .args .i) (c .before .before .before .before .before .before .before .before .before .before .pre .1) (c .before .before .before .before .before .before .before .meta-at .result) (c .before .before .before .before .before .before .before .meta-at .ensures) _ _ (c .before .before .before .before .before .before .node-state-front .ensures) (c .before .before .before .data-of .ensures .0))
+
+pub tell-node-spec : {M : Type 1} → statement M
+tell-node-spec = tie.close (tie.spec meta-at-requires node-state-front-requires slice-aggregate-reply data-of-requires reply-requires same-length returns)

@@ -1,0 +1,5 @@
+-- The laws of text.
+pub mod Digits
+pub mod Onward
+pub mod Puts
+pub mod Pairs

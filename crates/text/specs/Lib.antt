@@ -1,0 +1,4 @@
+pub mod Decimal
+pub mod Hexadecimal
+pub mod Reading
+pub mod Room
