@@ -1,6 +1,6 @@
 -- Only a Network State TLV asks whether a Node State about another is in the datagram. Assumes nothing.
-use mathlib.Core.Path.{_≡_, refl, sym, ap, _∙_}
-use mathlib.Core.Bool.{Bool, true, false, cond}
+use mathlib.Core.Path.{_≡_, refl, ap, _∙_}
+use mathlib.Core.Bool.{Bool, false, cond}
 use mathlib.Core.List.{List, [], _∷_}
 use Prim.Native.Nat.{ℕ}
 use lib.Dec.{eqb}
@@ -8,7 +8,7 @@ use borrow.Author.Tests.{eqb-true}
 use Rattle.base.proofs.Tests.{by-test}
 use Rattle.wire.specs.Row.{typeOf, valueOf}
 use Rattle.model.specs.Decide.{Received, Decision, decide}
-use Rattle.model.specs.Handle.{Context as ModelContext, Sender, Work as ModelWork, piece, reply, replies, askNetwork, touch, onRequestNetwork, onRequestNode, greet, onStranger, onEndpoint, onNetwork, onOwnState, carryOut, onState, onTlv, oneTlv}
+use Rattle.model.specs.Handle.{Context as ModelContext, Sender, Work as ModelWork, piece, reply, replies, askNetwork, touch, onRequestNetwork, onRequestNode, greet, onStranger, onEndpoint, onOwnState, carryOut, onState, onTlv, oneTlv}
 use Rattle.reply.specs.declared.Context.{Context}
 use Rattle.reply.specs.View.{contextOf, Work, workOf, Stepped, Open}
 use Rattle.table.specs.declared.Table.{Table}

@@ -1,8 +1,8 @@
 -- What is carried out, by its cases: the table with a decision or a Peer TLV, the peers with one more and the last contact. Assumes nothing.
 use mathlib.Core.Path.{_≡_, refl, sym, ap, _∙_, subst}
-use mathlib.Core.Bool.{Bool, true, false, not, cond, _&&_, _||_}
+use mathlib.Core.Bool.{Bool, true, false, not, _&&_, _||_}
 use mathlib.Core.List.{List, map}
-use Prim.Native.Nat.{ℕ, _<_}
+use Prim.Native.Nat.{ℕ}
 use borrow.Author.Tests.{not-false}
 use Rattle.base.specs.Lists.{joinAll}
 use Rattle.base.specs.Memory.{spliced}
@@ -12,12 +12,12 @@ use Rattle.wire.specs.Order.{place}
 use Rattle.wire.proofs.Good.{good-row}
 use Rattle.model.specs.Figures.{dataLimit}
 use Rattle.model.specs.Sequence.{advance}
-use Rattle.model.specs.Table.{Entry, entryOf}
+use Rattle.model.specs.Table.{entryOf}
 use Rattle.model.specs.State.{Peer as ModelPeer, peerTlv, withTlv, contacted}
 use Rattle.model.specs.Invariant.{EntryFits}
 use Rattle.table.specs.declared.Table.{Table}
 use Rattle.table.specs.declared.Entry.{Entry as Meta}
-use Rattle.table.specs.View.{view, dataOf, metaAt, Kept, Read, Stands, Stored}
+use Rattle.table.specs.View.{dataOf, metaAt, Read, Stands, Stored}
 use Rattle.table.proofs.Tables.{view-each}
 use Rattle.node.specs.declared.peers.Peers.{Peers}
 use Rattle.node.specs.View.{peersOf}
@@ -85,13 +85,6 @@ known-multicast true false touches e u = refl
 known-multicast false unicast touches e u = no-way true refl e
 
 -- ---- the peers
-
-module _ {A : Type 0} (b : Bool) (x y : A) where
-  pub cond-not : not b ≡ true → y ≡ cond b x y
-  cond-not e = rw (no-not b e)
-
-  pub cond-so : not b ≡ false → x ≡ cond b x y
-  cond-so e = rw (not-false b e)
 
 module _ (c : Context) (f : Sender) (x : Act) (b : Bool) (e : b ≡ touching (c .unicast) f x) (q : Peers) (ps : List ModelPeer) (z : peersOf q ≡ ps) where
   pub met-not : not b ≡ true → peersOf q ≡ touchedIn c f x ps

@@ -15,7 +15,7 @@ use Rattle.model.specs.Figures.{mostBytes, lastReading}
 use Rattle.model.specs.Table.{Entry}
 use Rattle.model.specs.Digest.{networkDigest}
 use Rattle.model.specs.State.{State as ModelState, settle}
-use Rattle.model.specs.Handle.{Context as ModelContext, Work as ModelWork, onTlv, allTlvs, eachTable}
+use Rattle.model.specs.Handle.{Context as ModelContext, onTlv, allTlvs, eachTable}
 use Rattle.model.specs.Receive.{Answer, aboutOther, contextOf as callContext, startOf, handled, answered}
 use Rattle.model.specs.Invariant.{Midway}
 use Rattle.table.specs.View.{view, Wrote}
@@ -28,11 +28,11 @@ use Rattle.node.specs.View.{peersOf, stateOf, PeersRep, Rep, Settled}
 use Rattle.node.proofs.Parts.{state-own, putEndpoints}
 use Rattle.reply.specs.declared.Context.{Context}
 use Rattle.reply.specs.declared.Progress.{Progress}
-use Rattle.reply.specs.View.{contextOf, Work, gather, workOf, Ready, Open}
-use Rattle.reply.proofs.Steps.{work-state, work-out, work-omitted, work-dropped, ready-open}
+use Rattle.reply.specs.View.{contextOf, Work, gather, workOf, Ready}
+use Rattle.reply.proofs.Steps.{work-state, work-out, work-omitted, work-dropped}
 use Rattle.exchange.specs.declared.Step.{Step}
 use Rattle.exchange.specs.Told.{Answered, TableAfter, greetedIn, touchedIn, Told}
-use Rattle.exchange.proofs.Asides.{aside, open-aside}
+use Rattle.exchange.proofs.Asides.{aside}
 use Rattle.exchange.proofs.Telling.{one-carried}
 use Rattle.exchange.proofs.Tlvs.{Through, through-on}
 use Rattle.exchange.specs.Datagram.{atStart, callOf, Ran, tablesOf, Handled}
@@ -73,10 +73,6 @@ first-ready s m r clock endpoint unicast others e g q k i l low high big =
 module _ (s : State) (dg : List ℕ) (clock endpoint : ℕ) (unicast : Bool) (w : Work) (m r : List ℕ) (at : ℕ) (t : Table) (p : Peers) (d : Progress) (m′ r′ : List ℕ)
     (l : Through (callIn s dg clock endpoint unicast) dg w m r at (gather (callIn s dg clock endpoint unicast) s t p d) m′ r′) (h : Header) (k : Tells dg at h)
     (found : Bool) (e : h .kind ≡ 4 → found ≡ any (aboutOther (s .own)) (tlvs dg)) where
-  -- what the TLV may rely on
-  pub tlv-open : Open (contextIn (s .own) clock endpoint unicast found) t d m′ r′
-  tlv-open = open-aside found (ready-open s p (l .ready))
-
   pub carried-on : Bytes dg → length dg ≤ mostBytes → w .omitted ≡ 0 → w .dropped ≡ 0 → (v : List ℕ) → valueOf (tlvOf dg at h) ≡ v → (x : Step)
       → Told (contextIn (s .own) clock endpoint unicast found) 33 (onTlv (contextOf (contextIn (s .own) clock endpoint unicast found)) (h .kind) v) v t p d m′ x
       → (u : Progress) (r″ : List ℕ) → Answered (contextIn (s .own) clock endpoint unicast found) (x .act) t (x .progress) m′ r′ u r″

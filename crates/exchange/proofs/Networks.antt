@@ -6,22 +6,21 @@ use Prim.Native.Nat.{ℕ, _≤_}
 use native.Mathlib.Omega.{arith}
 use Rattle.base.specs.Bytes.{same}
 use Rattle.base.proofs.Tests.{no-way, by-test}
-use Rattle.model.specs.State.{State as ModelState, Endpoint as ModelEndpoint, withTrickle, endpointAt, withEndpoint}
+use Rattle.model.specs.State.{State as ModelState, Endpoint as ModelEndpoint, withTrickle, withEndpoint}
 use Rattle.model.specs.Trickle.{hear, Trickle as ModelTrickle}
-use Rattle.model.specs.Handle.{withState, touch, askNetwork, digestNow, countEqual, onNetwork}
+use Rattle.model.specs.Handle.{withState, touch, digestNow, countEqual, onNetwork}
 use Rattle.model.proofs.Cases.{equal-unicast, network-equal, network-others, network-ask}
 use Rattle.trickle.specs.declared.Trickle.{Trickle}
 use Rattle.trickle.specs.View.{trickleOf}
 use Rattle.table.specs.declared.Table.{Table}
 use Rattle.node.specs.declared.State.{State}
-use Rattle.node.specs.declared.Endpoint.{Endpoint}
 use Rattle.node.specs.declared.peers.Peers.{Peers}
-use Rattle.node.specs.View.{endpointOf, stateOf, Moved}
+use Rattle.node.specs.View.{stateOf}
 use Rattle.node.proofs.Moves.{moved-to}
 use Rattle.reply.specs.declared.Context.{Context}
 use Rattle.reply.specs.declared.Progress.{Progress}
 use Rattle.reply.specs.Updates.{withLocal}
-use Rattle.reply.specs.View.{contextOf, Work, gather, workOf, Sound, Stepped}
+use Rattle.reply.specs.View.{contextOf, gather, workOf, Sound, Stepped}
 use Rattle.reply.proofs.Steps.{work-state, work-own, work-table, gathered, local-is, local-moved, stepped-none, stepped-to, stepped-more, stepped-kept}
 use Rattle.exchange.specs.declared.Act.the-variants.{AskNetwork, Equal}
 use Rattle.exchange.specs.Told.{stillAt, Counts, Passes, Told}

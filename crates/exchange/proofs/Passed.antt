@@ -11,8 +11,7 @@ use Rattle.wire.specs.Row.{typeOf, valueOf}
 use Rattle.model.specs.Handle.{touch, onTlv, oneTlv}
 use Rattle.model.proofs.Cases.{touch-none, on-other, one-tlv-unicast, one-tlv-multicast}
 use Rattle.reply.specs.declared.Context.{Context}
-use Rattle.reply.specs.declared.Progress.{Progress}
-use Rattle.reply.specs.View.{contextOf, Work, gather, workOf, Ready, Stepped}
+use Rattle.reply.specs.View.{contextOf, Work, workOf, Ready, Stepped}
 use Rattle.reply.proofs.Steps.{work-unknown, stepped-none, stepped-to, stepped-more}
 use Rattle.exchange.specs.Passed.{handles, idle}
 

@@ -1,6 +1,6 @@
 -- Node Endpoint TLVs: a sender that becomes a peer, and what a Node Endpoint TLV does. Assumes nothing.
 use mathlib.Core.Path.{_≡_, refl, sym, ap, _∙_}
-use mathlib.Core.Bool.{Bool, true, false, not, _&&_}
+use mathlib.Core.Bool.{Bool, true, false, _&&_}
 use mathlib.Core.List.{List, [], _∷_, _++_}
 use mathlib.Core.Option.{Option}
 use Prim.Native.Nat.{ℕ, _+_, _≤_, _<_}
@@ -12,8 +12,8 @@ use Rattle.base.specs.Lists.{any, orElse}
 use Rattle.base.proofs.Tests.{and-left, and-right, and-both, and-no, and-stop, no-way}
 use Rattle.model.specs.Figures.{mostPeers, dataLimit, peerBytes}
 use Rattle.model.specs.Sequence.{advance}
-use Rattle.model.specs.Table.{Entry, entryOf, put}
-use Rattle.model.specs.State.{State as ModelState, withTable, ownData, publishAs, peerTlv, withTlv, isPeer}
+use Rattle.model.specs.Table.{Entry}
+use Rattle.model.specs.State.{State as ModelState, ownData, publishAs, peerTlv, withTlv, isPeer}
 use Rattle.model.specs.Handle.{Sender as ModelSender, withState, withSender, askNetwork, newPeer, roomForPeer, addPeer, greet, knows, onEndpoint}
 use Rattle.model.proofs.Cases.{greet-room, greet-full, stranger-unicast, stranger-multicast, endpoint-own, endpoint-known, endpoint-stranger}
 use Rattle.table.specs.declared.Table.{Table}
@@ -23,7 +23,7 @@ use Rattle.node.specs.declared.State.{State}
 use Rattle.node.specs.declared.peers.Peer.{Peer}
 use Rattle.node.specs.declared.peers.Peers.{Peers}
 use Rattle.node.specs.View.{peerOf, peersOf, stateOf, PeersRep, Rep, Published}
-use Rattle.node.proofs.Parts.{state-own, state-peers}
+use Rattle.node.proofs.Parts.{state-peers}
 use Rattle.node.proofs.Own.{own-seq, own-data, own-length}
 use Rattle.node.proofs.Moves.{stored-published}
 use Rattle.node.proofs.Contacts.{peers-length}

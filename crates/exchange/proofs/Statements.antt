@@ -16,13 +16,12 @@ use Rattle.model.specs.Figures.{mostNodes, dataLimit, reclaimStep}
 use Rattle.model.specs.Sequence.{advance}
 use Rattle.model.specs.Table.{Entry, entryOf, put}
 use Rattle.model.specs.State.{State as ModelState, withTable, ownEntry, ownData, publishAs}
-use Rattle.model.specs.Messages.{requestNodeTlv}
 use Rattle.model.specs.Decide.{Decision as ModelDecision, receivedOf, differs, decide}
-use Rattle.model.specs.Handle.{Work as ModelWork, withState, reply, onOwnState, carryOut, onState}
+use Rattle.model.specs.Handle.{Work as ModelWork, withState, onOwnState, carryOut, onState}
 use Rattle.model.proofs.Cases.{received-node, received-seq, received-hash, own-reclaimed, own-agrees, state-own, state-other, carry-ignored, carry-ask, carry-number, carry-all, carry-dropped}
 use Rattle.table.specs.declared.Table.{Table}
 use Rattle.table.specs.declared.Entry.{Entry as Meta}
-use Rattle.table.specs.View.{view, seen, dataOf, metaAt, Kept, Read, Stands, Gap, Stored, Renumbered}
+use Rattle.table.specs.View.{view, seen, dataOf, metaAt, Read, Stands, Gap, Stored, Renumbered}
 use Rattle.table.proofs.Tables.{meta-hashed}
 use Rattle.node.specs.declared.State.{State}
 use Rattle.node.specs.declared.peers.Peers.{Peers}

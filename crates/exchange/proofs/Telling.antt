@@ -1,6 +1,6 @@
 -- Steps that are told and carried out: one that leaves table and peers alone, one after another, and the whole with the last contact. Assumes nothing.
-use mathlib.Core.Path.{_≡_, refl, sym, ap, _∙_, subst}
-use mathlib.Core.Bool.{Bool, true, false, not, cond, _&&_, _||_}
+use mathlib.Core.Path.{_≡_, refl, sym, ap, _∙_}
+use mathlib.Core.Bool.{Bool, true, false, cond, _&&_, _||_}
 use mathlib.Core.List.{List, [], _∷_, _++_, map}
 use Prim.Native.Nat.{ℕ, _+_, _≤_, _<_}
 use native.Mathlib.Omega.{arith}
@@ -24,7 +24,7 @@ use Rattle.reply.specs.declared.Context.{Context}
 use Rattle.reply.specs.declared.Sender.{Sender}
 use Rattle.reply.specs.declared.Progress.{Progress}
 use Rattle.reply.specs.View.{contextOf, Work, gather, workOf, Sound, Stepped, Refreshed, Open}
-use Rattle.reply.proofs.Steps.{work-state, work-known, work-unknown, putState, gathered, stepped-none, stepped-to, stepped-more, stepped-then, stepped-last, stepped-kept, refreshed-stepped, refreshed-open}
+use Rattle.reply.proofs.Steps.{work-state, work-known, work-unknown, putState, gathered, stepped-to, stepped-more, stepped-then, stepped-last, stepped-kept, refreshed-stepped, refreshed-open}
 use Rattle.exchange.specs.declared.Step.{Step}
 use Rattle.exchange.specs.declared.Act.{Act}
 use Rattle.exchange.specs.Told.{stillAt, Answered, TableAfter, greets, touches, newcomer, greetedIn, touchedIn, Greeted, Passes, Told}

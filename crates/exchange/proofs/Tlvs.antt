@@ -8,7 +8,7 @@ use lib.ListN.{length, take, drop, length-drop}
 use Rattle.base.specs.Bytes.{Bytes, u32At}
 use Rattle.base.proofs.Lists.{drop-later}
 use Rattle.base.proofs.Bytes.{bytes-take, bytes-drop}
-use Rattle.wire.specs.Row.{typeOf, valueOf, isRow, tlvs}
+use Rattle.wire.specs.Row.{valueOf, isRow, tlvs}
 use Rattle.wire.specs.Answers.{tlvOf, Tells}
 use Rattle.wire.specs.declared.row.Header.{Header}
 use Rattle.wire.proofs.Rows.{tlvs-end}

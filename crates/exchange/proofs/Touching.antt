@@ -1,12 +1,12 @@
 -- The last contact over the model: once is as often as it takes, and it can be set after the digest counts. Assumes nothing.
 use mathlib.Core.Path.{_≡_, refl, sym, ap, _∙_}
-use mathlib.Core.Bool.{Bool, true, false, cond}
+use mathlib.Core.Bool.{false}
 use mathlib.Core.List.{List, [], _∷_, map}
-use mathlib.Core.Option.{none, some}
+use mathlib.Core.Option.{some}
 use Prim.Native.Nat.{ℕ}
 use Rattle.base.proofs.Tests.{by-test}
 use Rattle.base.proofs.Options.{by-option}
-use Rattle.model.specs.State.{State, Peer, withPeers, isPeer, contacted}
+use Rattle.model.specs.State.{Peer, withPeers, isPeer, contacted}
 use Rattle.model.specs.Handle.{Context, Sender, Work, withState, touchBy, touch, countEqual, onEqual}
 use Rattle.model.proofs.Cases.{touch-none, touch-some, equal-multicast}
 

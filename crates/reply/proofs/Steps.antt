@@ -16,7 +16,7 @@ use Rattle.base.proofs.Written.{written-length, written-taken, written-left}
 use Rattle.model.specs.Figures.{mostBytes}
 use Rattle.model.specs.Table.{Entry}
 use Rattle.model.specs.State.{State as ModelState, endpointAt, withEndpoint}
-use Rattle.model.specs.Handle.{Work as ModelWork, withState, withSender, withOut, omitOne, dropOne, digestNow}
+use Rattle.model.specs.Handle.{Work as ModelWork, withState, withSender, withOut, omitOne, dropOne}
 use Rattle.model.specs.Invariant.{Midway}
 use Rattle.table.specs.View.{view, SlotsStay, Wrote}
 use Rattle.table.specs.declared.Table.{Table}
@@ -33,7 +33,7 @@ use Rattle.reply.specs.declared.Context.{Context}
 use Rattle.reply.specs.declared.Sender.{Sender}
 use Rattle.reply.specs.declared.Progress.{Progress}
 use Rattle.reply.specs.Updates.{withLocal}
-use Rattle.reply.specs.View.{contextOf, Work, gather, workOf, Sound, Ready, Stepped, Markable, Refreshed, Open}
+use Rattle.reply.specs.View.{Work, gather, workOf, Sound, Ready, Stepped, Markable, Refreshed, Open}
 
 -- ---- the model's work by its parts
 
@@ -364,24 +364,3 @@ module _ {c : Context} {t : Table} {d : Progress} {m : List ℕ} {v : Progress} 
     pub refreshed-stepped : (r : List ℕ) → Sound (c .clock) (gather c b t p d) m r → Stepped c 0 (λ x. x) (gather c b t p d) m r (gather c b t p v) m r
     refreshed-stepped r k =
         stepped-still 0 (λ x. x) (gather c b t p v) (refreshed-work r) (refreshed-sound r k) (omega (arith, h .omitted)) (omega (arith, h .dropped)) (h .used) refl
-
-    -- a step from there is a step from the work before
-    pub refreshed-then : {k : ℕ} {f : ModelWork → ModelWork} {r : List ℕ} {u : Work} {m′ r′ : List ℕ} → Stepped c k f (gather c b t p v) m r u m′ r′
-        → Stepped c k f (gather c b t p d) m r u m′ r′
-    refreshed-then {f = f} {r = r} s =
-        record {
-          is = s .is ∙ ap f (refreshed-work r);
-          sound = s .sound;
-          omitted = omega (arith, s .omitted, h .omitted);
-          dropped = omega (arith, s .dropped, h .dropped);
-          wrote = s .wrote;
-          size = s .size;
-          beyond = s .beyond;
-          room = s .room;
-          onward = omega (arith, s .onward, h .used);
-          rest = s .rest;
-        }
-
-    -- marks and digest are the model's
-    pub refreshed-digest : (r : List ℕ) → v .reached .digest ≡ digestNow (contextOf c) (workOf (gather c b t p d) m r)
-    refreshed-digest r = rw (work-own (gather c b t p d) m r, work-table (gather c b t p d) m r) (h .reaching .digest)

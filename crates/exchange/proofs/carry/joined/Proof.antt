@@ -2,7 +2,6 @@ use borrow.Author.Needs.{needs}
 use Rattle.exchange.proofs.carry.joined.Statement.{statement}
 use Rattle.exchange.proofs.carry.joined.Tie as tie
 use mathlib.Core.Path.{sym, _∙_}
-use mathlib.Core.Bool.{cond}
 use borrow.Author.Tests.{not-false}
 use Rattle.base.proofs.Tests.{no-not}
 

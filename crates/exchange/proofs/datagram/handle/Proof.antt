@@ -1,7 +1,7 @@
 use borrow.Author.Needs.{needs}
 use Rattle.exchange.proofs.datagram.handle.Statement.{statement}
 use Rattle.exchange.proofs.datagram.handle.Tie as tie
-use mathlib.Core.Path.{_≡_, refl, sym, _∙_, subst}
+use mathlib.Core.Path.{_≡_, refl, sym, _∙_}
 use mathlib.Core.Bool.{true, false}
 use mathlib.Core.Logic.{⊎-elim}
 use Prim.Native.Nat.{_+_, _-_}
@@ -17,14 +17,13 @@ use Rattle.wire.specs.Answers.{tlvOf}
 use Rattle.model.specs.Receive.{aboutOther}
 use Rattle.node.specs.View.{peersOf}
 use Rattle.reply.specs.declared.Context.{Context}
-use Rattle.reply.specs.declared.Progress.{Progress}
 use Rattle.reply.specs.View.{gather}
 use Rattle.reply.proofs.Steps.{ready-open}
 use Rattle.exchange.proofs.Asides.{open-aside}
 use Rattle.exchange.proofs.Carrying.{unaltered, unmet}
 use Rattle.exchange.proofs.Tlvs.{Through, through-start, through-on, through-end}
 use Rattle.exchange.proofs.Passed.{passed-step}
-use Rattle.exchange.proofs.Datagrams.{contextIn, callIn, firstWork, first-ready, tlv-open, carried-on, received}
+use Rattle.exchange.proofs.Datagrams.{contextIn, callIn, first-ready, carried-on, received}
 
 -- The loop's invariant: what is left, handled from here, gives the whole answer.
 abbrev Inv-loop : tie.InvT-loop

@@ -1,4 +1,3 @@
-use borrow.Author.Needs.{needs}
 use Rattle.exchange.proofs.datagram.looked.Statement.{statement}
 use Rattle.exchange.proofs.datagram.looked.Tie as tie
 

@@ -1,7 +1,6 @@
 use borrow.Author.Needs.{needs}
 use Rattle.exchange.proofs.statement.on_own_state.Statement.{statement}
 use Rattle.exchange.proofs.statement.on_own_state.Tie as tie
-use native.Mathlib.Omega.{arith}
 use Rattle.exchange.proofs.Statements.{told-stays, told-again}
 
 own-place-requires : tie.Need-own-place-requires
