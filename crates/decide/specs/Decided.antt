@@ -7,7 +7,7 @@ use lib.ListN.{length, take, drop}
 use Rattle.base.specs.Bytes.{u32At}
 use Rattle.sha256.specs.Sha256.{hash16}
 use Rattle.model.specs.Figures.{mostNodes, dataLimit}
-use Rattle.model.specs.Table.{entryOf}
+use Rattle.model.specs.Table.{entryOf, stamp}
 use Rattle.model.specs.Decide.{Decision as ModelDecision, receivedOf, decide}
 use Rattle.table.specs.declared.Table.{Table}
 use Rattle.table.specs.View.{metaAt, dataOf, view, Kept, Stands, Gap}
@@ -18,8 +18,8 @@ use Rattle.decide.specs.declared.Decision.the-variants.{Ignored, Ask, Ta
 abbrev pub decisionOf : ℕ → Table → List ℕ → List ℕ → Decision → ModelDecision
 decisionOf clock t m v Ignored = ModelDecision.ignored
 decisionOf clock t m v (Ask node) = ModelDecision.ask node
-decisionOf clock t m v (TakeNumber place node seq age) = ModelDecision.takeNumber (entryOf node seq (dataOf m (metaAt t place)) age clock)
-decisionOf clock t m v (TakeAll place held node seq age) = ModelDecision.takeAll (entryOf node seq (drop 28 v) age clock)
+decisionOf clock t m v (TakeNumber place node seq age) = ModelDecision.takeNumber (entryOf node seq (dataOf m (metaAt t place)) (stamp age clock))
+decisionOf clock t m v (TakeAll place held node seq age) = ModelDecision.takeAll (entryOf node seq (drop 28 v) (stamp age clock))
 decisionOf clock t m v Dropped = ModelDecision.dropped
 
 -- the node stands at the place, or would stand there

@@ -12,7 +12,7 @@ use Rattle.wire.specs.Order.{place}
 use Rattle.wire.proofs.Good.{good-row}
 use Rattle.model.specs.Figures.{dataLimit}
 use Rattle.model.specs.Sequence.{advance}
-use Rattle.model.specs.Table.{entryOf}
+use Rattle.model.specs.Table.{entryOf, anew}
 use Rattle.model.specs.State.{Peer as ModelPeer, peerTlv, withTlv, contacted}
 use Rattle.model.specs.Invariant.{EntryFits}
 use Rattle.table.specs.declared.Table.{Table}
@@ -54,7 +54,7 @@ module _ {c : Context} {own : ℕ} {t : Table} {m : List ℕ} (k : Joinable c ow
 
   pub linked-as : (f : Sender) (q : ℕ) (tlv d : List ℕ) → d ≡ dataOf m (metaAt t i) → spliced d q tlv ≡ joinAll (place tlv (tlvs d))
       → (e : Meta) → Read t i e → (seq : ℕ) → seq ≡ advance (e .seq) 1 → tlv ≡ peerTlv (record { node = f .node; theirs = f .endpoint; ours = c .endpoint; contact = 0 })
-      → {t′ : Table} {m′ : List ℕ} → Stored (entryOf own seq (spliced (dataOf m (metaAt t i)) q tlv) 0 (c .clock)) t m i t′ m′ → Links c own f t m t′ m′
+      → {t′ : Table} {m′ : List ℕ} → Stored (entryOf own seq (spliced (dataOf m (metaAt t i)) q tlv) (anew (c .clock))) t m i t′ m′ → Links c own f t m t′ m′
   unfolding withTlv
   linked-as f q tlv d z w e o seq es et {t′} {m′} g =
       let n : seq ≡ advance (metaAt t i .seq) 1 = es ∙ ap (λ (r : Meta). advance (r .seq) 1) (o .same) in
@@ -64,8 +64,8 @@ module _ {c : Context} {own : ℕ} {t : Table} {m : List ℕ} (k : Joinable c ow
       record {
         place = i;
         stands = s;
-        stored = subst (λ (x : ℕ). Stored (entryOf own x (withTlv (peerTlv (record { node = f .node; theirs = f .endpoint; ours = c .endpoint; contact = 0 })) (dataOf m (metaAt t i))) 0 (c .clock)) t m i t′ m′) n
-            (subst (λ (x : List ℕ). Stored (entryOf own seq x 0 (c .clock)) t m i t′ m′) a g);
+        stored = subst (λ (x : ℕ). Stored (entryOf own x (withTlv (peerTlv (record { node = f .node; theirs = f .endpoint; ours = c .endpoint; contact = 0 })) (dataOf m (metaAt t i))) (anew (c .clock))) t m i t′ m′) n
+            (subst (λ (x : List ℕ). Stored (entryOf own seq x (anew (c .clock))) t m i t′ m′) a g);
       }
 
 -- ---- the last contact

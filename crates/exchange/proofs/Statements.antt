@@ -14,7 +14,7 @@ use Rattle.sha256.specs.Sha256.{hash16}
 use Rattle.sha256.proofs.Sizes.{hash16-length}
 use Rattle.model.specs.Figures.{mostNodes, dataLimit, reclaimStep}
 use Rattle.model.specs.Sequence.{advance}
-use Rattle.model.specs.Table.{Entry, entryOf, put}
+use Rattle.model.specs.Table.{Entry, entryOf, put, stamp}
 use Rattle.model.specs.State.{State as ModelState, withTable, ownEntry, ownData, publishAs}
 use Rattle.model.specs.Decide.{Decision as ModelDecision, receivedOf, differs, decide}
 use Rattle.model.specs.Handle.{Work as ModelWork, withState, onOwnState, carryOut, onState}
@@ -83,23 +83,23 @@ module _ (c : Context) (w : Work) (m r : List ℕ) (h : Sound (c .clock) w m r) 
 
   -- number and age for the node at place i, its data as they are
   number-taken : (i node seq age : ℕ) (t : Table) → Renumbered node seq age (c .clock) (w .state .table) i t
-      → Stepped c 0 (carryOut (contextOf c) (ModelDecision.takeNumber (entryOf node seq (dataOf m (metaAt (w .state .table) i)) age (c .clock)))) w m r (putState (tablePut t (w .state)) false w) m r
+      → Stepped c 0 (carryOut (contextOf c) (ModelDecision.takeNumber (entryOf node seq (dataOf m (metaAt (w .state .table) i)) (stamp age (c .clock))))) w m r (putState (tablePut t (w .state)) false w) m r
   number-taken i node seq age t o =
-      let e : Entry = entryOf node seq (dataOf m (metaAt (w .state .table) i)) age (c .clock) in
+      let e : Entry = entryOf node seq (dataOf m (metaAt (w .state .table) i)) (stamp age (c .clock)) in
       entry-stepped (carryOut (contextOf c) (ModelDecision.takeNumber e)) e (carry-number (contextOf c) (workOf w m r) e) t m
       (renumbered-put (w .state) m (h .rep) t node seq age (c .clock) i o)
 
   -- number, age and data, which stand at place i by then
-  all-taken : (i node seq age : ℕ) (b : List ℕ) (t : Table) (m′ : List ℕ) → Stored (entryOf node seq b age (c .clock)) (w .state .table) m i t m′
-      → Stepped c 0 (carryOut (contextOf c) (ModelDecision.takeAll (entryOf node seq b age (c .clock)))) w m r (putState (tablePut t (w .state)) false w) m′ r
+  all-taken : (i node seq age : ℕ) (b : List ℕ) (t : Table) (m′ : List ℕ) → Stored (entryOf node seq b (stamp age (c .clock))) (w .state .table) m i t m′
+      → Stepped c 0 (carryOut (contextOf c) (ModelDecision.takeAll (entryOf node seq b (stamp age (c .clock))))) w m r (putState (tablePut t (w .state)) false w) m′ r
   all-taken i node seq age b t m′ o =
-      let e : Entry = entryOf node seq b age (c .clock) in
+      let e : Entry = entryOf node seq b (stamp age (c .clock)) in
       entry-stepped (carryOut (contextOf c) (ModelDecision.takeAll e)) e (carry-all (contextOf c) (workOf w m r) e) t m′
       (stored-put (w .state) m (h .rep) t e m′ i o)
 
 -- as `replace` and `insert` promise it, of the rest of the value
 pub stored-rest : {node seq age clock : ℕ} (v : List ℕ) {t : Table} {m : List ℕ} {i : ℕ} {t′ : Table} {m′ : List ℕ}
-    → Stored (entryOf node seq (take (length v - 28) (drop 28 v)) age clock) t m i t′ m′ → Stored (entryOf node seq (drop 28 v) age clock) t m i t′ m′
+    → Stored (entryOf node seq (take (length v - 28) (drop 28 v)) (stamp age clock)) t m i t′ m′ → Stored (entryOf node seq (drop 28 v) (stamp age clock)) t m i t′ m′
 stored-rest v o = rw rest-is at o
 
 -- a decision as a step

@@ -7,7 +7,7 @@ use lib.ListN.{drop}
 use Rattle.model.specs.Figures.{mostPeers, dataLimit, peerBytes}
 use Rattle.model.specs.Sequence.{advance}
 use Rattle.model.specs.Trickle.{hear}
-use Rattle.model.specs.Table.{entryOf}
+use Rattle.model.specs.Table.{entryOf, stamp, anew}
 use Rattle.model.specs.State.{Peer as ModelPeer, peerTlv, withTlv, contacted}
 use Rattle.model.specs.Messages.{requestNodeTlv, wholeState}
 use Rattle.model.specs.Handle.{Work as ModelWork, reply, askNetwork, touch, newPeer, onRequestNetwork}
@@ -91,7 +91,7 @@ abbrev pub TakenBy : ℕ → List ℕ → Decision → Table → List ℕ → Ta
 TakenBy clock v Ignored t m t′ m′ = (t′ ≡ t) × (m′ ≡ m)
 TakenBy clock v (Ask node) t m t′ m′ = (t′ ≡ t) × (m′ ≡ m)
 TakenBy clock v (TakeNumber place node seq age) t m t′ m′ = Renumbered node seq age clock t place t′ × (m′ ≡ m)
-TakenBy clock v (TakeAll place held node seq age) t m t′ m′ = Stored (entryOf node seq (drop 28 v) age clock) t m place t′ m′
+TakenBy clock v (TakeAll place held node seq age) t m t′ m′ = Stored (entryOf node seq (drop 28 v) (stamp age clock)) t m place t′ m′
 TakenBy clock v Dropped t m t′ m′ = (t′ ≡ t) × (m′ ≡ m)
 
 -- our own data can take a Peer TLV more
@@ -107,7 +107,7 @@ pub record Links (c : Context) (own : ℕ) (f : Sender) (t : Table) (m : List �
   pub stored :
       Stored
       (entryOf own (advance (metaAt t place .seq) 1)
-      (withTlv (peerTlv (record { node = f .node; theirs = f .endpoint; ours = c .endpoint; contact = 0 })) (dataOf m (metaAt t place))) 0 (c .clock))
+      (withTlv (peerTlv (record { node = f .node; theirs = f .endpoint; ours = c .endpoint; contact = 0 })) (dataOf m (metaAt t place))) (anew (c .clock)))
       t m place t′ m′
 
 -- the table after what is asked for on the value v, from the sender f

@@ -30,7 +30,7 @@ ghost use lib.Dec.{eqb};
 ghost use lib.ListN.{length, take, drop};
 ghost use Rattle.model.specs.Figures.{mostBytes, mostPeers};
 ghost use Rattle.node.specs.View.{peersOf, PeersRep};
-ghost use Rattle.model.specs.Table.{entryOf};
+ghost use Rattle.model.specs.Table.{entryOf, stamp};
 ghost use Rattle.table.specs.View.{Kept, Stored};
 ghost use Rattle.reply.specs.Updates.{stale};
 ghost use Rattle.reply.specs.View.{Open};
@@ -192,7 +192,7 @@ fn stored(
     age: u32,
 ) -> Table
     requires { ⌜ Kept t (now mem) × (Placed t node place held × (HasRoom t held × Fine (now value))) ⌝ }
-    ensures { λ r. ⌜ Stored (entryOf node seq (drop 28 (now (value .entry))) age clock) t (now (mem .entry)) place r (now (mem .exit)) ⌝ }
+    ensures { λ r. ⌜ Stored (entryOf node seq (drop 28 (now (value .entry))) (stamp age clock)) t (now (mem .entry)) place r (now (mem .exit)) ⌝ }
 {
     let hash = hash_in(value);
     if held {

@@ -7,7 +7,7 @@ use native.Mathlib.Omega.{arith}
 use lib.ListN.{length}
 use Rattle.base.specs.Bytes.{big32}
 use Rattle.sha256.specs.Sha256.{kTable, zeros, pad, wordAt, blockAt, initial, nextWord, extend, schedule, roundOf, rounds, compress, hash, hashValue, sha256, hash16}
-use Rattle.model.specs.Table.{entryOf}
+use Rattle.model.specs.Table.{entryOf, anew}
 use Rattle.model.specs.Trickle.{fresh}
 use Rattle.model.specs.Digest.{networkDigest}
 use Rattle.model.specs.Begin.{started, begun, blank}
@@ -37,8 +37,8 @@ zero-hash : hash16 (big32 0 ++ emptyHash) ≡ aloneDigest
 unfolding kTable zeros pad wordAt blockAt initial nextWord extend schedule roundOf rounds compress hash hashValue sha256 hash16
 zero-hash = refl
 
-alone-digest : networkDigest 0 0 (entryOf 0 0 [] 0 0 ∷ []) ≡ aloneDigest
-alone-digest = states-read-back .alone 0 0 (entryOf 0 0 [] 0 0) refl ∙ ap (λ (h : List ℕ). hash16 (big32 0 ++ h)) empty-hash ∙ zero-hash
+alone-digest : networkDigest 0 0 (entryOf 0 0 [] (anew 0) ∷ []) ≡ aloneDigest
+alone-digest = states-read-back .alone 0 0 (entryOf 0 0 [] (anew 0)) refl ∙ ap (λ (h : List ℕ). hash16 (big32 0 ++ h)) empty-hash ∙ zero-hash
 
 -- node 0 with no data, whatever stands in the places that do not count
 abbrev first : List Meta → List Peer → State

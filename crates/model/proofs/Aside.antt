@@ -22,7 +22,7 @@ use Rattle.wire.specs.Order.{good}
 use Rattle.wire.specs.Payment.{Payment}
 use Rattle.model.specs.Figures.{mostNodes, dataLimit, refreshAge}
 use Rattle.model.specs.Sequence.{older, advance}
-use Rattle.model.specs.Table.{Statement, Entry, idOf, entryOf, ageAt, look, put, statements}
+use Rattle.model.specs.Table.{Statement, Entry, idOf, entryOf, ageAt, look, put, statements, anew}
 use Rattle.model.specs.Reach.{inReach}
 use Rattle.model.specs.State.{State, withPeers, ownEntry, ownData, ownSeq, publishAs, publish, withTlv, settle}
 use Rattle.model.specs.Messages.{requestNetworkTlv, networkTlv, shortState, wholeState}
@@ -189,8 +189,8 @@ unfolding publishAs put
 published clock n d s =
     record {
       own = refl;
-      others = ap (apart (s .own)) (insert-map saysOf nodeOf (entryOf (s .own) n d 0 clock) (s .table)) ∙ apart-own (s .own) (entryOf (s .own) n d 0 clock .says) (statements (s .table)) refl;
-      sorted = insert-ascending idOf (entryOf (s .own) n d 0 clock) (s .table);
+      others = ap (apart (s .own)) (insert-map saysOf nodeOf (entryOf (s .own) n d (anew clock)) (s .table)) ∙ apart-own (s .own) (entryOf (s .own) n d (anew clock) .says) (statements (s .table)) refl;
+      sorted = insert-ascending idOf (entryOf (s .own) n d (anew clock)) (s .table);
     }
 
 -- ---- TLVs

@@ -18,7 +18,7 @@ use Rattle.wire.specs.Payment.{Payment, paymentTlv}
 use Rattle.wire.proofs.Good.{good-made}
 use Rattle.model.specs.Figures.{dataLimit, lastReading, leastInterval}
 use Rattle.model.specs.Sequence.{circle, advance}
-use Rattle.model.specs.Table.{Entry, idOf, entryOf, underAge, look, put}
+use Rattle.model.specs.Table.{Entry, idOf, entryOf, underAge, look, put, anew}
 use Rattle.model.specs.Reach.{Vertex, vertices, isNode, level0, levels, met, marked, inReach, reached}
 use Rattle.model.specs.State.{State, withTable, noEntry, ownEntry, ownSeq, ownData, publishAs, publish, withTlv, settle}
 use Rattle.model.specs.Refusals.{Row, late, back, smallTable, noHousehold, paidAlready, full}
@@ -63,8 +63,8 @@ empty-good = good-made dataLimit [] tt refl (omega arith)
 pub begun-valid : (own clock : ℕ) (rs : List ℕ) → own < circle → clock ≤ lastReading → length rs ≡ 4 → Valid (begun own clock rs)
 unfolding begun look
 begun-valid own clock rs o l r =
-    let q : look own (entryOf own 0 [] 0 clock ∷ []) ≡ some (entryOf own 0 [] 0 clock) = find-yes idOf own (entryOf own 0 [] 0 clock) [] refl in
-    started-valid own clock rs (entryOf own 0 [] 0 clock ∷ []) (entryOf own 0 [] 0 clock) o l r
+    let q : look own (entryOf own 0 [] (anew clock) ∷ []) ≡ some (entryOf own 0 [] (anew clock)) = find-yes idOf own (entryOf own 0 [] (anew clock)) [] refl in
+    started-valid own clock rs (entryOf own 0 [] (anew clock) ∷ []) (entryOf own 0 [] (anew clock)) o l r
     (record {
       ascending = (tt, tt);
       held = ap isSome q;
@@ -95,7 +95,7 @@ module _ (clock : ℕ) (rs : List ℕ) (b : Snapshot) (f : SnapshotFits clock b)
   before = orElse (look (b .own) (b .entries)) noEntry (λ e. e)
 
   abbrev again : Entry
-  again = entryOf (b .own) (advance (before .says .seq) 1) (withoutLinks (before .says .nodeData)) 0 clock
+  again = entryOf (b .own) (advance (before .says .seq) 1) (withoutLinks (before .says .nodeData)) (anew clock)
 
   before-held : look (b .own) (b .entries) ≡ some before
   before-held = found (look (b .own) (b .entries)) (f .table .held)

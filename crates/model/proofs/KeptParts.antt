@@ -20,7 +20,7 @@ use Rattle.base.proofs.Places.{all-at}
 use Rattle.wire.specs.Order.{good}
 use Rattle.model.specs.Figures.{mostNodes, dataLimit, lastReading, leastInterval, greatestInterval}
 use Rattle.model.specs.Sequence.{circle, advance}
-use Rattle.model.specs.Table.{Entry, idOf, entryOf, look, put}
+use Rattle.model.specs.Table.{Entry, idOf, entryOf, look, put, anew}
 use Rattle.model.specs.Digest.{networkDigest}
 use Rattle.model.specs.Trickle.{Trickle, fresh, hear, spend, reset, event, pointDue, intervalOver}
 use Rattle.model.specs.State.{State, Peer, Endpoint, withTable, withPeers, withTrickle, endpointAt, withEndpoint, noEndpoint, noEntry, ownEntry, ownData, publishAs, peerTlv, isPeer, contacted, resetAll, settle}
@@ -155,14 +155,14 @@ module _ {clock : ℕ} (e : Entry) (s : State) (m : Midway clock s) (ne : ¬ (id
 
 -- our own entry, published, with the peers that its data names
 module _ {clock : ℕ} (n : ℕ) (d : List ℕ) (ps : List Peer) (s : State) where
-  pub published-own : ownEntry (withPeers ps (publishAs clock n d s)) ≡ entryOf (s .own) n d 0 clock
+  pub published-own : ownEntry (withPeers ps (publishAs clock n d s)) ≡ entryOf (s .own) n d (anew clock)
   unfolding ownEntry publishAs
-  published-own = rw (look-put (entryOf (s .own) n d 0 clock) (s .table))
+  published-own = rw (look-put (entryOf (s .own) n d (anew clock)) (s .table))
 
   pub publish-kept : Midway clock s → n < circle → good dataLimit d ≡ true → PeersFit (s .own) clock ps → Linked d ps → Midway clock (withPeers ps (publishAs clock n d s))
   unfolding publishAs
   publish-kept m l g p k =
-      let e : Entry = entryOf (s .own) n d 0 clock in
+      let e : Entry = entryOf (s .own) n d (anew clock) in
       record {
         own = m .own;
         table = put-fits e (s .table) (m .table) (record { node = m .own; seq = l; fine = g; age = omega arith; since = omega arith })

@@ -25,7 +25,7 @@ use Rattle.wire.proofs.Good.{Whole, place-whole, place-in, in-place, keep-place
 use Rattle.wire.proofs.Encoded.{payment-whole, payment-type}
 use Rattle.model.specs.Figures.{mostNodes, dataLimit, refreshAge, reclaimStep}
 use Rattle.model.specs.Sequence.{advance}
-use Rattle.model.specs.Table.{Entry, idOf, entryOf, ageAt, look}
+use Rattle.model.specs.Table.{Entry, idOf, entryOf, ageAt, look, anew}
 use Rattle.model.specs.State.{State, Peer, withTable, withPeers, noEntry, ownEntry, ownSeq, ownData, publishAs, publish, peerTlv, withTlv, settle}
 use Rattle.model.specs.Decide.{Received, Decision, receivedOf, taken, withData, withoutData, wantedNew, wantedHeld, differs, decide, after}
 use Rattle.model.specs.Reach.{reached}
@@ -199,13 +199,13 @@ pays clock p rs table s z t = rw (accepted clock p rs table s z, paid-payments c
 
 begins : (own clock : ℕ) (rs : List ℕ) → ownPayments (begun own clock rs) ≡ []
 unfolding begun started ownEntry look
-begins own clock rs = ap paymentsFound (find-yes idOf own (entryOf own 0 [] 0 clock) [] refl) ∙ ap (keep isPayment) (tlvs-end [] refl)
+begins own clock rs = ap paymentsFound (find-yes idOf own (entryOf own 0 [] (anew clock)) [] refl) ∙ ap (keep isPayment) (tlvs-end [] refl)
 
 resumes : (clock : ℕ) (rs : List ℕ) (b : Snapshot) (e : Entry) → look (b .own) (b .entries) ≡ some e → ownPayments (resumed clock rs b) ≡ paymentsOf (e .says .nodeData)
 unfolding resumed republished started ownEntry
 resumes clock rs b e q =
     let before : Entry = orElse (look (b .own) (b .entries)) noEntry (λ f. f) in
-    ap paymentsFound (look-put (entryOf (b .own) (advance (before .says .seq) 1) (withoutLinks (before .says .nodeData)) 0 clock) (b .entries))
+    ap paymentsFound (look-put (entryOf (b .own) (advance (before .says .seq) 1) (withoutLinks (before .says .nodeData)) (anew clock)) (b .entries))
     ∙ payments-unlinked (before .says .nodeData) ∙ ap paymentsFound q
 
 pub own-payments-stay : OwnPaymentsStay

@@ -22,7 +22,7 @@ use Rattle.wire.proofs.Varints.{got, read-written, read-once, groups-length, re
 use Rattle.wire.proofs.Good.{good-fits}
 use Rattle.model.specs.Figures.{mostNodes, dataLimit, mostAge, snapshotBytes}
 use Rattle.model.specs.Sequence.{circle}
-use Rattle.model.specs.Table.{Entry, entryOf, idOf, ageAt, look}
+use Rattle.model.specs.Table.{Entry, entryOf, idOf, ageAt, look, stamp}
 use Rattle.model.specs.State.{State}
 use Rattle.model.specs.Invariant.{EntryFits, SnapshotFits, Valid}
 use Rattle.model.specs.Snapshot.{Snapshot, saveEntry, saved, reads, loadEntries, holdsOwn, load}
@@ -51,7 +51,7 @@ module _ {X : Type 0} (most : ℕ) (s : List ℕ) (f : ℕ → List ℕ → Opti
 unfoldable pub afterSize : ℕ → ℕ → ℕ → ℕ → ℕ → ℕ → List ℕ → Option (List Entry)
 afterSize clock n node seq age size d =
     cond (leb size (length d) && good dataLimit (take size d))
-    (consTo (entryOf node seq (take size d) age clock) (loadEntries clock n (node + 1) (drop size d)))
+    (consTo (entryOf node seq (take size d) (stamp age clock)) (loadEntries clock n (node + 1) (drop size d)))
     none
 
 unfoldable pub afterAge : ℕ → ℕ → ℕ → ℕ → ℕ → List ℕ → Option (List Entry)
@@ -120,7 +120,7 @@ module _ (clock n node seq age size : ℕ) (d : List ℕ) where
   size-bad e = rw (and-no (leb size (length d)) (good dataLimit (take size d)) e)
 
   pub size-fine : size ≤ length d → good dataLimit (take size d) ≡ true
-      → afterSize clock n node seq age size d ≡ consTo (entryOf node seq (take size d) age clock) (loadEntries clock n (node + 1) (drop size d))
+      → afterSize clock n node seq age size d ≡ consTo (entryOf node seq (take size d) (stamp age clock)) (loadEntries clock n (node + 1) (drop size d))
   unfolding afterSize
   size-fine h e = rw (le-leb size (length d) h, e)
 
@@ -172,7 +172,7 @@ pub record Next (low : ℕ) (s : List ℕ) : Type 0 where
   pub fine : good dataLimit (take size body) ≡ true
 
 abbrev pub entryRead : {low : ℕ} {s : List ℕ} → ℕ → Next low s → Entry
-entryRead clock x = entryOf (x .node) (x .seq) (take (x .size) (x .body)) (x .age) clock
+entryRead clock x = entryOf (x .node) (x .seq) (take (x .size) (x .body)) (stamp (x .age) clock)
 
 abbrev pub pastEntry : {low : ℕ} {s : List ℕ} → Next low s → List ℕ
 pastEntry x = drop (x .size) (x .body)
@@ -191,7 +191,7 @@ module _ (clock n low : ℕ) (s : List ℕ) (at node a1 seq a2 age a3 size a4 : 
     (e1 : readGroups mostU32 (drop at s) ≡ got node (drop a1 s)) (e2 : readGroups mostU32 (drop a1 s) ≡ got seq (drop a2 s))
     (e3 : readGroups mostAge (drop a2 s) ≡ got age (drop a3 s)) (e4 : readGroups dataLimit (drop a3 s) ≡ got size (drop a4 s)) where
   pub next-at : low ≤ node → a4 + size ≤ length s → good dataLimit (take size (drop a4 s)) ≡ true
-      → loadEntries clock (suc n) low (drop at s) ≡ consTo (entryOf node seq (take size (drop a4 s)) age clock) (loadEntries clock n (node + 1) (drop (a4 + size) s))
+      → loadEntries clock (suc n) low (drop at s) ≡ consTo (entryOf node seq (take size (drop a4 s)) (stamp age clock)) (loadEntries clock n (node + 1) (drop (a4 + size) s))
   next-at h w g =
       next-fine clock n low (drop at s)
       (record {
@@ -227,8 +227,8 @@ next-some clock n low s t e f =
     (λ h k. reads-some mostU32 s1 (afterSeq clock n node) t k
     (λ seq s2 e2 m2 k2. reads-some mostAge s2 (afterAge clock n node seq) t k2
     (λ age s3 e3 m3 k3. reads-some dataLimit s3 (afterSize clock n node seq age) t k3
-    (λ size d e4 m4 k4. cond-yes (leb size (length d) && good dataLimit (take size d)) (consTo (entryOf node seq (take size d) age clock) (loadEntries clock n (node + 1) (drop size d))) t k4
-    (λ g k5. cons-some (entryOf node seq (take size d) age clock) (loadEntries clock n (node + 1) (drop size d)) t k5
+    (λ size d e4 m4 k4. cond-yes (leb size (length d) && good dataLimit (take size d)) (consTo (entryOf node seq (take size d) (stamp age clock)) (loadEntries clock n (node + 1) (drop size d))) t k4
+    (λ g k5. cons-some (entryOf node seq (take size d) (stamp age clock)) (loadEntries clock n (node + 1) (drop size d)) t k5
     (f (record {
       node = node;
       seq = seq;

@@ -19,7 +19,7 @@ use Rattle.wire.specs.Order.{good}
 use Rattle.wire.proofs.Ordering.{same-self}
 use Rattle.model.specs.Figures.{mostNodes, dataLimit, mostBytes, requestGap}
 use Rattle.model.specs.Sequence.{circle, half, offset, older}
-use Rattle.model.specs.Table.{Entry, idOf, entryOf, look, put}
+use Rattle.model.specs.Table.{Entry, idOf, entryOf, look, put, stamp}
 use Rattle.model.specs.State.{State, Endpoint, endpointAt, withNext, noEndpoint}
 use Rattle.model.specs.Messages.{requestNetworkTlv}
 use Rattle.model.specs.Decide.{Received, Decision, carriedIn, receivedOf, withData, withoutData, wantedNew, wantedHeld, differs, decide}
@@ -101,7 +101,7 @@ counts-exact =
 -- ---- an empty node
 
 new-empty : (clock : ℕ) (t : List Entry) (r : Received) → r .carried ≡ some [] → same (hash16 []) (r .hash) ≡ true → look (r .node) t ≡ none → length t < mostNodes
-    → decide clock t r ≡ Decision.takeAll (entryOf (r .node) (r .seq) [] (r .age) clock)
+    → decide clock t r ≡ Decision.takeAll (entryOf (r .node) (r .seq) [] (stamp (r .age) clock))
 unfolding decide wantedNew withData
 new-empty clock t r carried hash new room = rw (new, lt-leb mostNodes (length t) room, carried, empty-good, hash)
 
@@ -123,15 +123,15 @@ unfolding receivedOf look put
 empty-taken = record { taken = short-taken; again = short-again }
   where
     short-taken : (clock : ℕ) (t : List Entry) (v : List ℕ) → length v ≡ 28 → take 16 (drop 12 v) ≡ hash16 [] → look (u32At v 0) t ≡ none
-        → length t < mostNodes → decide clock t (receivedOf v) ≡ Decision.takeAll (entryOf (u32At v 0) (u32At v 4) [] (u32At v 8) clock)
+        → length t < mostNodes → decide clock t (receivedOf v) ≡ Decision.takeAll (entryOf (u32At v 0) (u32At v 4) [] (stamp (u32At v 8) clock))
     short-taken clock t v l h new room =
         let none-left : drop 28 v ≡ [] = drop-of-length-le v {i = 28} (omega arith) in
         new-empty clock t (receivedOf v) (carried-empty (take 16 (drop 12 v)) (drop 28 v) h none-left) (rw (h, same-self)) new room
 
     short-again : (clock later : ℕ) (t : List Entry) (v : List ℕ) → length v ≡ 28 → take 16 (drop 12 v) ≡ hash16 []
-        → decide later (put (entryOf (u32At v 0) (u32At v 4) [] (u32At v 8) clock) t) (receivedOf v) ≡ Decision.ignored
+        → decide later (put (entryOf (u32At v 0) (u32At v 4) [] (stamp (u32At v 8) clock)) t) (receivedOf v) ≡ Decision.ignored
     short-again clock later t v l h =
-        let e : Entry = entryOf (u32At v 0) (u32At v 4) [] (u32At v 8) clock in
+        let e : Entry = entryOf (u32At v 0) (u32At v 4) [] (stamp (u32At v 8) clock) in
         same-ignored later (put e t) (receivedOf v) e (find-inserted idOf e t) refl (rw (h, same-self))
 
 -- ---- a foreign digest

@@ -15,7 +15,7 @@ use Rattle.base.proofs.Lists.{keep-in, all-more, all-in, keep-none}
 use Rattle.base.proofs.Places.{all-at}
 use Rattle.wire.proofs.Ordering.{same-self}
 use Rattle.model.specs.Figures.{refreshAge, leastInterval, greatestInterval}
-use Rattle.model.specs.Table.{Entry, entryOf, idOf, ageAt, look, put}
+use Rattle.model.specs.Table.{Entry, entryOf, idOf, ageAt, look, put, anew}
 use Rattle.model.specs.Digest.{networkDigest}
 use Rattle.model.specs.Trickle.{Trickle, fresh, spend, reset, pointDue, intervalOver, event}
 use Rattle.model.specs.State.{State, Peer, Endpoint, endpointAt, noEndpoint, withEndpoints, withEndpoint, withTrickle, withPeers, ownEntry, publishAs, resetAll, settle}
@@ -77,7 +77,7 @@ module _ (clock i : ℕ) where
   published-calm : (n : ℕ) (d : List ℕ) (s : State) → All (λ p. ¬ (p .node ≡ s .own)) (s .peers) → Calm (withPeers (stay clock i s) (publishAs clock n d s))
   unfolding publishAs ownEntry look put
   published-calm n d s h =
-      let e : Entry = entryOf (s .own) n d 0 clock in
+      let e : Entry = entryOf (s .own) n d (anew clock) in
       record { none = ap someOf (stay-stays e s h); young = rw (find-inserted idOf e (s .table)) (omega arith) }
 
   silent-calm : (s : State) → All (λ p. ¬ (p .node ≡ s .own)) (s .peers) → Calm (dropSilent clock i s)

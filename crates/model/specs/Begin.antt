@@ -4,7 +4,7 @@ use mathlib.Core.List.{List, [], _∷_, map}
 use Prim.Native.Nat.{ℕ}
 use lib.Dec.{eqb}
 use Rattle.model.specs.Figures.{leastInterval}
-use Rattle.model.specs.Table.{Entry, entryOf}
+use Rattle.model.specs.Table.{Entry, entryOf, anew}
 use Rattle.model.specs.Digest.{networkDigest}
 use Rattle.model.specs.Trickle.{fresh}
 use Rattle.model.specs.State.{State, Endpoint}
@@ -26,7 +26,7 @@ started own clock randoms t =
 
 -- "A beginning holds our box alone: number 0, empty data, age 0, no peers, nothing asked yet"
 unfoldable pub begun : ℕ → ℕ → List ℕ → State
-begun own clock randoms = started own clock randoms (entryOf own 0 [] 0 clock ∷ [])
+begun own clock randoms = started own clock randoms (entryOf own 0 [] (anew clock) ∷ [])
 
 -- the state to start from: that of node 0 begun at reading 0 with random numbers 0
 unfoldable pub blank : State

@@ -11,7 +11,7 @@ use Rattle.sha256.specs.Sha256.{hash16}
 use Rattle.wire.specs.Order.{good}
 use Rattle.model.specs.Figures.{mostNodes, dataLimit}
 use Rattle.model.specs.Sequence.{older}
-use Rattle.model.specs.Table.{Entry, entryOf, look, put}
+use Rattle.model.specs.Table.{Entry, entryOf, look, put, stamp}
 
 -- "box, number, age in ms, H(data), data"
 pub record Received : Type 0 where
@@ -47,7 +47,7 @@ pub data Decision : Type 0 where
 
 -- "number, age and data are taken"
 abbrev pub taken : ℕ → Received → List ℕ → Entry
-taken clock r d = entryOf (r .node) (r .seq) d (r .age) clock
+taken clock r d = entryOf (r .node) (r .seq) d (stamp (r .age) clock)
 
 -- "With data: ignored unless good and H matches"
 unfoldable pub withData : ℕ → Received → List ℕ → Decision

@@ -13,7 +13,7 @@ use Rattle.wire.specs.Groups.{groups, readGroups}
 use Rattle.wire.specs.Payment.{Payment, folded, paymentTlv}
 use Rattle.model.specs.Figures.{usualInterval, tableBytes, mostBytes, snapshotBytes}
 use Rattle.model.specs.Sequence.{older}
-use Rattle.model.specs.Table.{Entry, entryOf, statements}
+use Rattle.model.specs.Table.{Entry, entryOf, statements, stamp, anew}
 use Rattle.model.specs.Reach.{inReach}
 use Rattle.model.specs.State.{State, Peer, peerTlv}
 use Rattle.model.specs.Messages.{requestNetworkTlv, requestNodeTlv, endpointTlv, networkTlv}
@@ -39,7 +39,7 @@ abbrev pub names : ℕ → ℕ → ℕ → List ℕ
 names n theirs ours = peerTlv (record { node = n; theirs = theirs; ours = ours; contact = 0 })
 
 abbrev pub aged : ℕ → ℕ → List (List ℕ) → Entry
-aged n age ts = entryOf n 0 (joinAll ts) age 0
+aged n age ts = entryOf n 0 (joinAll ts) (stamp age 0)
 
 -- whether B is out of A's reach, where each publishes one TLV
 abbrev pub out : List ℕ → List ℕ → Bool
@@ -166,36 +166,36 @@ pub record Session : Type 0 where
   pub held : receive (at 199 false (endpointTlv 2 7)) asker .bytes ≡ []
   pub written : receive (at 200 false (endpointTlv 2 7)) asker .bytes ≡ asked
   -- over unicast a stranger becomes a peer, whose Peer TLV we publish, and where its digest differs it is asked too
-  pub peers : kept second ≡ (neighbour ∷ [], entryOf 1 1 (names 2 7 1) 0 0 ∷ [])
+  pub peers : kept second ≡ (neighbour ∷ [], entryOf 1 1 (names 2 7 1) (anew 0) ∷ [])
   pub unicast : receive (at 0 true (greeting foreign16)) first .bytes ≡ asked
   -- its statement is taken
-  pub taken : kept third ≡ (neighbour ∷ [], entryOf 1 1 (names 2 7 1) 0 0 ∷ entryOf 2 5 (names 1 1 7) 0 2 ∷ [])
+  pub taken : kept third ≡ (neighbour ∷ [], entryOf 1 1 (names 2 7 1) (anew 0) ∷ entryOf 2 5 (names 1 1 7) (anew 2) ∷ [])
   -- a request for the network state is answered by Node Endpoint, Network State and two Node States
   pub served : length (receive (at 3 true requestNetworkTlv) third .bytes) ≡ 12 + 20 + 32 + 32
   -- a node that publishes nothing is taken at once; not reachable, it is not served
-  pub empty : other .table ≡ entryOf 1 0 [] 0 0 ∷ entryOf 2 0 [] 0 1 ∷ []
+  pub empty : other .table ≡ entryOf 1 0 [] (anew 0) ∷ entryOf 2 0 [] (anew 1) ∷ []
   pub unserved : receive (at 2 true (requestNodeTlv 2)) other .bytes ≡ []
   -- a new node's Node State without data has it asked for, and one whose digest is not that of its data is ignored
   pub requested : receive (at 1 true (statement 2 5 theirs16 [])) first .bytes ≡ endpointTlv 1 1 ++ requestNodeTlv 2
-  pub mismatched : receive (at 1 true (statement 2 5 foreign16 (names 1 1 7))) first .state .table ≡ entryOf 1 0 [] 0 0 ∷ []
+  pub mismatched : receive (at 1 true (statement 2 5 foreign16 (names 1 1 7))) first .state .table ≡ entryOf 1 0 [] (anew 0) ∷ []
   -- another digest under a number that we hold is wanted
-  pub differing : decide 3 (entryOf 2 5 (names 1 1 7) 0 2 ∷ []) (receivedOf (valueOf (statement 2 5 empty16 []))) ≡ Decision.takeAll (entryOf 2 5 [] 0 3)
+  pub differing : decide 3 (entryOf 2 5 (names 1 1 7) (anew 2) ∷ []) (receivedOf (valueOf (statement 2 5 empty16 []))) ≡ Decision.takeAll (entryOf 2 5 [] (anew 3))
   -- a newer number of our own node is passed by 1,000
-  pub reclaimed : receive (at 1 true (statement 1 5 empty16 [])) first .state .table ≡ entryOf 1 1005 [] 0 1 ∷ []
+  pub reclaimed : receive (at 1 true (statement 1 5 empty16 [])) first .state .table ≡ entryOf 1 1005 [] (anew 1) ∷ []
   -- what is no row of TLVs is refused with 6, and changes nothing
   pub refused : receive (at 1 true (0 ∷ [])) first ≡ record { number = 6; state = first; bytes = []; omitted = 0; dropped = 0 }
   -- a peer silent for 41,999 ms stays; at 42,000 a tick of its endpoint, and of no other, removes it, and we publish once without its Peer TLV
-  pub silent : kept (tickedAt 41999 1 second) ≡ (neighbour ∷ [], entryOf 1 1 (names 2 7 1) 0 0 ∷ [])
-  pub elsewhere : kept (tickedAt 42000 2 second) ≡ (neighbour ∷ [], entryOf 1 1 (names 2 7 1) 0 0 ∷ [])
-  pub gone : kept (tickedAt 42000 1 second) ≡ ([], entryOf 1 2 [] 0 42000 ∷ [])
+  pub silent : kept (tickedAt 41999 1 second) ≡ (neighbour ∷ [], entryOf 1 1 (names 2 7 1) (anew 0) ∷ [])
+  pub elsewhere : kept (tickedAt 42000 2 second) ≡ (neighbour ∷ [], entryOf 1 1 (names 2 7 1) (anew 0) ∷ [])
+  pub gone : kept (tickedAt 42000 1 second) ≡ ([], entryOf 1 2 [] (anew 42000) ∷ [])
   -- a peer's interval is that of the first Keep-Alive TLV for its endpoint, else the usual
   pub interval : intervalIn (keepAlive 6 1000 ++ (keepAlive 7 3000 ++ keepAlive 7 5000)) 7 ≡ 3000
   pub usual : intervalIn (keepAlive 6 1000) 7 ≡ 20000
   -- at an age of 4,294,901,760 we publish again, and not before
-  pub old : tickedAt 4294901759 1 first .table ≡ entryOf 1 0 [] 0 0 ∷ []
-  pub renewed : tickedAt 4294901760 1 first .table ≡ entryOf 1 1 [] 0 4294901760 ∷ []
+  pub old : tickedAt 4294901759 1 first .table ≡ entryOf 1 0 [] (anew 0) ∷ []
+  pub renewed : tickedAt 4294901760 1 first .table ≡ entryOf 1 1 [] (anew 4294901760) ∷ []
   -- a payment is published once, and its household's total rises by its amount
-  pub paid : payer .table ≡ entryOf 1 1 (drop 7 sample) 0 1 ∷ []
+  pub paid : payer .table ≡ entryOf 1 1 (drop 7 sample) (anew 1) ∷ []
   pub before : total 1 17 tableBytes first ≡ record { number = 0; value = pos 0; unread = 0 }
   pub after : total 1 17 tableBytes payer ≡ record { number = 0; value = pos 1250; unread = 0 }
   -- the same payment again is 8; our data is shown, and a node that is not held is 10
@@ -203,7 +203,7 @@ pub record Session : Type 0 where
   pub seen : shown 1 tableBytes payer ≡ drop 7 sample
   pub unknown : refusalShow 2 tableBytes payer ≡ 10
   -- resuming drops our peers and their TLVs, publishes once and has asked nothing yet; what was saved of node 2 stays, as old as it was
-  pub resumed : kept again ≡ ([], entryOf 1 2 [] 0 9 ∷ entryOf 2 5 (names 1 1 7) 2 9 ∷ [])
+  pub resumed : kept again ≡ ([], entryOf 1 2 [] (anew 9) ∷ entryOf 2 5 (names 1 1 7) (stamp 2 9) ∷ [])
   pub unasked : map (λ e. e .next) (again .endpoints) ≡ noughts4
   -- the sample snapshot loads, and sums to 1,250 cents
   pub sampled : orElse (load 0 sample) (pos 0) (λ b. sumOf (statements (b .entries))) ≡ pos 1250

@@ -22,8 +22,8 @@ pub record EntryFits (last : ℕ) (e : Entry) : Type 0 where
   pub node : idOf e < circle
   pub seq : e .says .seq < circle
   pub fine : good dataLimit (e .says .nodeData) ≡ true
-  pub age : e .age ≤ mostAge
-  pub since : e .since ≤ last
+  pub age : e .stamp .age ≤ mostAge
+  pub since : e .stamp .since ≤ last
 
 -- a peer: not our own node, on one of our endpoints, heard no later than the last reading
 pub record PeerFits (own last : ℕ) (p : Peer) : Type 0 where

@@ -12,7 +12,7 @@ use Rattle.wire.specs.Order.{good}
 use Rattle.wire.specs.Groups.{groups, readGroups}
 use Rattle.model.specs.Figures.{mostNodes, dataLimit, mostAge, snapshotBytes}
 use Rattle.model.specs.Sequence.{advance}
-use Rattle.model.specs.Table.{Entry, entryOf, idOf, ageAt, look, put}
+use Rattle.model.specs.Table.{Entry, entryOf, idOf, ageAt, look, put, stamp, anew}
 use Rattle.model.specs.State.{State, noEntry}
 use Rattle.model.specs.Refusals.{Row, firstOf, late, back, smallTable, smallRoom}
 use Rattle.model.specs.Begin.{Done, started}
@@ -59,7 +59,7 @@ loadEntries clock (suc n) low s =
     reads mostU32 s (λ node a. cond (ltb node low) none
     (reads mostU32 a (λ seq b. reads mostAge b (λ age c. reads dataLimit c (λ size d.
     cond (leb size (length d) && good dataLimit (take size d))
-    (consTo (entryOf node seq (take size d) age clock) (loadEntries clock n (node + 1) (drop size d)))
+    (consTo (entryOf node seq (take size d) (stamp age clock)) (loadEntries clock n (node + 1) (drop size d)))
     none)))))
 
 abbrev pub holdsOwn : ℕ → List Entry → Option Snapshot
@@ -79,7 +79,7 @@ withoutLinks d = joinAll (keep (λ t. not (eqb (typeOf t) 8)) (tlvs d))
 unfoldable pub republished : ℕ → Snapshot → List Entry
 republished clock b =
     let e : Entry = orElse (look (b .own) (b .entries)) noEntry (λ f. f) in
-    put (entryOf (b .own) (advance (e .says .seq) 1) (withoutLinks (e .says .nodeData)) 0 clock) (b .entries)
+    put (entryOf (b .own) (advance (e .says .seq) 1) (withoutLinks (e .says .nodeData)) (anew clock)) (b .entries)
 
 unfoldable pub resumed : ℕ → List ℕ → Snapshot → State
 resumed clock randoms b = started (b .own) clock randoms (republished clock b)

@@ -9,7 +9,7 @@ use Rattle.base.specs.Bytes.{big32, same}
 use Rattle.wire.specs.Row.{encode, tlvs}
 use Rattle.wire.specs.Order.{place}
 use Rattle.model.specs.Sequence.{advance}
-use Rattle.model.specs.Table.{Entry, entryOf, look, put}
+use Rattle.model.specs.Table.{Entry, entryOf, look, put, anew}
 use Rattle.model.specs.Digest.{networkDigest}
 use Rattle.model.specs.Trickle.{Trickle, reset}
 
@@ -61,7 +61,7 @@ withEndpoint i e s = withEndpoints (set (s .endpoints) (pred i) e) s
 
 -- where there is no entry: the state's own node always has one
 abbrev pub noEntry : Entry
-noEntry = entryOf 0 0 [] 0 0
+noEntry = entryOf 0 0 [] (anew 0)
 
 unfoldable pub ownEntry : State → Entry
 ownEntry s = orElse (look (s .own) (s .table)) noEntry (λ e. e)
@@ -74,7 +74,7 @@ ownData s = ownEntry s .says .nodeData
 
 -- our node has the sequence number n and the data d: "sets age 0"
 unfoldable pub publishAs : ℕ → ℕ → List ℕ → State → State
-publishAs clock n d s = withTable (put (entryOf (s .own) n d 0 clock) (s .table)) s
+publishAs clock n d s = withTable (put (entryOf (s .own) n d (anew clock)) (s .table)) s
 
 -- "Publishing adds 1 modulo 2^32"
 abbrev pub publish : ℕ → List ℕ → State → State

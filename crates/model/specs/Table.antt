@@ -13,21 +13,32 @@ pub record Statement : Type 0 where
   pub seq : ℕ
   pub nodeData : List ℕ
 
--- a statement as it was taken: its age then, in milliseconds, and the reading then
-pub record Entry : Type 0 where
-  pub says : Statement
+-- when it was taken: its age then, in milliseconds, and the reading then
+pub record Stamp : Type 0 where
   pub age : ℕ
   pub since : ℕ
+
+abbrev pub stamp : ℕ → ℕ → Stamp
+stamp age since = record { age = age; since = since }
+
+-- "sets age 0"
+abbrev pub anew : ℕ → Stamp
+anew clock = stamp 0 clock
+
+-- a statement as it was taken
+pub record Entry : Type 0 where
+  pub says : Statement
+  pub stamp : Stamp
 
 abbrev pub idOf : Entry → ℕ
 idOf e = e .says .node
 
-abbrev pub entryOf : ℕ → ℕ → List ℕ → ℕ → ℕ → Entry
-entryOf node seq d age since = record { says = record { node = node; seq = seq; nodeData = d }; age = age; since = since }
+abbrev pub entryOf : ℕ → ℕ → List ℕ → Stamp → Entry
+entryOf node seq d t = record { says = record { node = node; seq = seq; nodeData = d }; stamp = t }
 
 -- "the age taken or set plus the milliseconds since"
 abbrev pub ageAt : ℕ → Entry → ℕ
-ageAt clock e = e .age + (clock - e .since)
+ageAt clock e = e .stamp .age + (clock - e .stamp .since)
 
 -- "under age when .. below 4,294,934,528"
 abbrev pub underAge : ℕ → Entry → Bool

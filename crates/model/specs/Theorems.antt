@@ -19,7 +19,7 @@ use Rattle.wire.specs.Payment.{Payment, Payable, mostHousehold, paymentTlv, rea
 use Rattle.sha256.specs.Sha256.{hash16}
 use Rattle.model.specs.Figures.{mostNodes, mostEndpoints, mostBytes, snapshotBytes, mostAge, lastReading}
 use Rattle.model.specs.Sequence.{circle}
-use Rattle.model.specs.Table.{Entry, Statement, idOf, entryOf, ageAt, look, put}
+use Rattle.model.specs.Table.{Entry, Statement, idOf, entryOf, ageAt, look, put, stamp}
 use Rattle.model.specs.Reach.{Vertex, vertices, levels, inReach, reached}
 use Rattle.model.specs.Chain.{Chain}
 use Rattle.model.specs.Digest.{networkDigest}
@@ -72,7 +72,7 @@ pub record InvariantKept : Type 0 where
 -- 5. Saving at one reading and loading at another gives back what was saved, ages capped and counted on from the second; a snapshot fits its
 -- room; whatever loads is what saving its content writes, and holds our own node, identifiers strictly ascending and good data.
 abbrev pub capped : ℕ → ℕ → Entry → Entry
-capped clock later e = entryOf (idOf e) (e .says .seq) (e .says .nodeData) (min (ageAt clock e) mostAge) later
+capped clock later e = entryOf (idOf e) (e .says .seq) (e .says .nodeData) (stamp (min (ageAt clock e) mostAge) later)
 
 pub record Snapshots : Type 0 where
   pub back : (s : State) (clock later : ℕ) → Valid s
@@ -245,9 +245,9 @@ pub record StatesReadBack : Type 0 where
 -- A new node that publishes nothing is taken at once from a Node State of 28 bytes, and not asked for again: once taken, the same Node State is ignored.
 pub record EmptyTaken : Type 0 where
   pub taken : (clock : ℕ) (t : List Entry) (v : List ℕ) → length v ≡ 28 → take 16 (drop 12 v) ≡ hash16 [] → look (u32At v 0) t ≡ none → length t < mostNodes
-      → decide clock t (receivedOf v) ≡ Decision.takeAll (entryOf (u32At v 0) (u32At v 4) [] (u32At v 8) clock)
+      → decide clock t (receivedOf v) ≡ Decision.takeAll (entryOf (u32At v 0) (u32At v 4) [] (stamp (u32At v 8) clock))
   pub again : (clock later : ℕ) (t : List Entry) (v : List ℕ) → length v ≡ 28 → take 16 (drop 12 v) ≡ hash16 []
-      → decide later (put (entryOf (u32At v 0) (u32At v 4) [] (u32At v 8) clock) t) (receivedOf v) ≡ Decision.ignored
+      → decide later (put (entryOf (u32At v 0) (u32At v 4) [] (stamp (u32At v 8) clock)) t) (receivedOf v) ≡ Decision.ignored
 
 -- A foreign digest restarts no Trickle interval.
 abbrev pub trickles : State → List Trickle

@@ -10,7 +10,7 @@ use Rattle.base.specs.Memory.{spliced, cut}
 use Rattle.wire.specs.Row.{tlvs}
 use Rattle.wire.specs.Order.{place}
 use Rattle.model.specs.Figures.{tableBytes}
-use Rattle.model.specs.Table.{Entry, entryOf, put}
+use Rattle.model.specs.Table.{Entry, entryOf, put, stamp, anew}
 use Rattle.model.specs.State.{State as ModelState, Peer as ModelPeer, withTable, withPeers, withEndpoint, ownData, publishAs, withTlv}
 use Rattle.table.specs.View.{view, dataOf, metaAt, Kept, Stands, Stored, Renumbered, Purged, Wrote}
 use Rattle.table.specs.declared.Table.{Table}
@@ -88,11 +88,11 @@ module _ (s : State) (m : List ℕ) (k : Rep s m) where
         }
 
     pub renumbered-put : (id seq age since i : ℕ) → Renumbered id seq age since (s .table) i t
-        → Published (withTable (put (entryOf id seq (dataOf m (metaAt (s .table) i)) age since) (stateOf s m .table)) (stateOf s m)) s m (putTable t s) m
+        → Published (withTable (put (entryOf id seq (dataOf m (metaAt (s .table) i)) (stamp age since)) (stateOf s m .table)) (stateOf s m)) s m (putTable t s) m
     renumbered-put id seq age since i o =
         record {
           moved = rw (state-table s m)
-              (table-moved t m (put (entryOf id seq (dataOf m (metaAt (s .table) i)) age since) (view (s .table) m)) (o .kept m (k .table)) (o .viewed m) refl);
+              (table-moved t m (put (entryOf id seq (dataOf m (metaAt (s .table) i)) (stamp age since)) (view (s .table) m)) (o .kept m (k .table)) (o .viewed m) refl);
           wrote = kept-wrote (s .table) t m (o .slots) (o .kept m (k .table));
         }
 
@@ -103,29 +103,29 @@ module _ (s : State) (m : List ℕ) (k : Rep s m) where
 
 module _ (s : State) (m : List ℕ) (i : ℕ) (k : Rep s m) (h : Stands (s .table) (s .own) i) (clock seq : ℕ) (t : Table) where
   -- our own entry put in is a publishing, its data as the model has them
-  own-put : (d d′ m′ : List ℕ) → d ≡ d′ → Published (withTable (put (entryOf (s .own) seq d 0 clock) (stateOf s m .table)) (stateOf s m)) s m (putTable t s) m′
+  own-put : (d d′ m′ : List ℕ) → d ≡ d′ → Published (withTable (put (entryOf (s .own) seq d (anew clock)) (stateOf s m .table)) (stateOf s m)) s m (putTable t s) m′
       → Published (publishAs clock seq d′ (stateOf s m)) s m (putTable t s) m′
   unfolding publishAs
   own-put d d′ m′ e =
       subst (λ (a : ModelState). Published a s m (putTable t s) m′)
-      (ap (λ (n : ℕ). withTable (put (entryOf n seq d 0 clock) (stateOf s m .table)) (stateOf s m)) (sym (state-own s m))
+      (ap (λ (n : ℕ). withTable (put (entryOf n seq d (anew clock)) (stateOf s m .table)) (stateOf s m)) (sym (state-own s m))
       ∙ ap (λ (z : List ℕ). publishAs clock seq z (stateOf s m)) e)
 
   pub renumber-published : Renumbered (s .own) seq 0 clock (s .table) i t → Published (publishAs clock seq (ownData (stateOf s m)) (stateOf s m)) s m (putTable t s) m
   renumber-published o = own-put (dataOf m (metaAt (s .table) i)) (ownData (stateOf s m)) m (sym (own-data s m i k h)) (renumbered-put s m k t (s .own) seq 0 clock i o)
 
-  pub stored-published : (d d′ m′ : List ℕ) → d ≡ d′ → Stored (entryOf (s .own) seq d 0 clock) (s .table) m i t m′ → Published (publishAs clock seq d′ (stateOf s m)) s m (putTable t s) m′
-  stored-published d d′ m′ e o = own-put d d′ m′ e (stored-put s m k t (entryOf (s .own) seq d 0 clock) m′ i o)
+  pub stored-published : (d d′ m′ : List ℕ) → d ≡ d′ → Stored (entryOf (s .own) seq d (anew clock)) (s .table) m i t m′ → Published (publishAs clock seq d′ (stateOf s m)) s m (putTable t s) m′
+  stored-published d d′ m′ e o = own-put d d′ m′ e (stored-put s m k t (entryOf (s .own) seq d (anew clock)) m′ i o)
 
   pub insert-published : (m′ : List ℕ) (p : ℕ) (tlv d : List ℕ) → d ≡ dataOf m (metaAt (s .table) i) → spliced d p tlv ≡ joinAll (place tlv (tlvs d))
-      → Stored (entryOf (s .own) seq (spliced (dataOf m (metaAt (s .table) i)) p tlv) 0 clock) (s .table) m i t m′
+      → Stored (entryOf (s .own) seq (spliced (dataOf m (metaAt (s .table) i)) p tlv) (anew clock)) (s .table) m i t m′
       → Published (publishAs clock seq (withTlv tlv (ownData (stateOf s m))) (stateOf s m)) s m (putTable t s) m′
   unfolding withTlv
   insert-published m′ p tlv d q w =
       stored-published (spliced (dataOf m (metaAt (s .table) i)) p tlv) (withTlv tlv (ownData (stateOf s m))) m′
       (ap (λ (z : List ℕ). spliced z p tlv) (sym q) ∙ w ∙ ap (withTlv tlv) (q ∙ sym (own-data s m i k h)))
 
-  pub remove-published : (m′ : List ℕ) (p n : ℕ) → Stored (entryOf (s .own) seq (cut (dataOf m (metaAt (s .table) i)) p n) 0 clock) (s .table) m i t m′
+  pub remove-published : (m′ : List ℕ) (p n : ℕ) → Stored (entryOf (s .own) seq (cut (dataOf m (metaAt (s .table) i)) p n) (anew clock)) (s .table) m i t m′
       → Published (publishAs clock seq (cut (ownData (stateOf s m)) p n) (stateOf s m)) s m (putTable t s) m′
   remove-published m′ p n =
       stored-published (cut (dataOf m (metaAt (s .table) i)) p n) (cut (ownData (stateOf s m)) p n) m′ (ap (λ (z : List ℕ). cut z p n) (sym (own-data s m i k h)))

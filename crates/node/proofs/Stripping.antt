@@ -21,7 +21,7 @@ use Rattle.wire.proofs.Rows.{tlvs-end}
 use Rattle.wire.proofs.Good.{good-fits, good-row, keep-good}
 use Rattle.model.specs.Figures.{dataLimit, tableBytes}
 use Rattle.model.specs.Sequence.{advance}
-use Rattle.model.specs.Table.{entryOf}
+use Rattle.model.specs.Table.{entryOf, anew}
 use Rattle.model.specs.State.{State as ModelState, Peer as ModelPeer, ownSeq, ownData, peerTlv, publish, publishAs, withPeers}
 use Rattle.model.specs.Tick.{withoutPeers}
 use Rattle.model.proofs.KeptData.{names}
@@ -241,14 +241,14 @@ module _ (s : State) (m : List ℕ) (k : Rep s m) (i : ℕ) (h : Stands (s .tabl
     )
 
     pub peers-dropped : (clock seq : ℕ) (t : Table) (p : Peers) → seq ≡ advance (e .seq) 1
-        → ((x d : List ℕ) → Kept (s .table) x → length d ≡ n → m′ ≡ written x (metaAt (s .table) i .slot * dataLimit) d → Stored (entryOf (s .own) seq d 0 clock) (s .table) x i t m′)
+        → ((x d : List ℕ) → Kept (s .table) x → length d ≡ n → m′ ≡ written x (metaAt (s .table) i .slot * dataLimit) d → Stored (entryOf (s .own) seq d (anew clock)) (s .table) x i t m′)
         → PeersRep p × (peersOf p ≡ keepBy (map not marks) (peersOf (s .peers)))
         → Published (withPeers (keepBy (map not marks) (stateOf s m .peers)) (publish clock (withoutPeers (keepBy marks (stateOf s m .peers)) (ownData (stateOf s m))) (stateOf s m)))
         s m (putPeers p (putTable t s)) m′
     peers-dropped clock seq t p es f l =
         let S : ModelState = stateOf s m in
         let d : List ℕ = withoutPeers going (part m (start) (e .len)) in
-        let stored : Stored (entryOf (s .own) seq d 0 clock) (s .table) m i t m′ =
+        let stored : Stored (entryOf (s .own) seq d (anew clock)) (s .table) m i t m′ =
         f m d (k .table) (sym (w .1)) (w .0 ∙ ap (λ (x : ℕ). written m x d) z ∙ ap (λ (x : Meta). written m (x .slot * dataLimit) d) (o .same)) in
         let q : seq ≡ advance (ownSeq S) 1 = es ∙ ap (λ (x : ℕ). advance x 1) (ap (λ (x : Meta). x .seq) (o .same) ∙ sym (own-seq s m i k h)) in
         let same-data : d ≡ withoutPeers (keepBy marks (S .peers)) (ownData S) =

@@ -11,7 +11,7 @@ use Rattle.base.proofs.Tests.{by-test}
 use Rattle.base.proofs.Lists.{take-drop-take}
 use Rattle.sha256.specs.Sha256.{hash16}
 use Rattle.model.specs.Figures.{dataLimit, tableBytes}
-use Rattle.model.specs.Table.{Entry, entryOf}
+use Rattle.model.specs.Table.{Entry, entryOf, stamp}
 use Rattle.model.specs.Invariant.{Valid}
 use Rattle.table.specs.declared.Table.{Table}
 use Rattle.table.specs.declared.Entry.{Entry as Meta}
@@ -32,7 +32,7 @@ module _ (m m′ : List ℕ) (e : take tableBytes m ≡ take tableBytes m′) wh
   seen-same : (l : List Meta) → Fit l → map (seen m) l ≡ map (seen m′) l
   seen-same [] f = refl
   seen-same (r ∷ l) f =
-      ap (λ (d : List ℕ). entryOf (r .id) (r .seq) d (r .age) (r .since) ∷ map (seen m) l) (data-same r (f .0))
+      ap (λ (d : List ℕ). entryOf (r .id) (r .seq) d (stamp (r .age) (r .since)) ∷ map (seen m) l) (data-same r (f .0))
       ∙ ap (λ (x : List Entry). seen m′ r ∷ x) (seen-same l (f .1))
 
   hashed-same : (l : List Meta) → Fit l → Hashed m l → Hashed m′ l

@@ -12,7 +12,7 @@ use Rattle.base.proofs.Tests.{no-way, by-order}
 use Rattle.base.proofs.Lists.{all-more}
 use Rattle.base.proofs.Sorted.{find-yes, find-no, insert-last}
 use Rattle.model.specs.Figures.{tableBytes}
-use Rattle.model.specs.Table.{Entry, entryOf, idOf, look, put}
+use Rattle.model.specs.Table.{Entry, entryOf, idOf, look, put, stamp}
 use Rattle.model.specs.Snapshot.{loadEntries, holdsOwn, load}
 use Rattle.model.proofs.Snapshots.{last-end, last-more, onto, onto-start, onto-next, onto-end}
 use Rattle.table.specs.declared.Table.{Table}
@@ -38,7 +38,7 @@ module _ (s : List ℕ) (at low : ℕ) (r : EntryRead) (h : ReadEntry s at low r
 -- the same with a number of entries that are left: one fewer after this one, or nothing loads
 module _ (s : List ℕ) (at low : ℕ) (clock count k : ℕ) (p : k < count) where
   left-on : (node seq age start size : ℕ) → EntryAt s at low node seq age start size
-      → loadEntries clock (count - k) low (drop at s) ≡ consTo (entryOf node seq (take size (drop start s)) age clock) (loadEntries clock (count - (k + 1)) (node + 1) (drop (start + size) s))
+      → loadEntries clock (count - k) low (drop at s) ≡ consTo (entryOf node seq (take size (drop start s)) (stamp age clock)) (loadEntries clock (count - (k + 1)) (node + 1) (drop (start + size) s))
   left-on node seq age start size x = let e : count - k ≡ count - (k + 1) + 1 = omega arith in rw e (x .loads clock (count - (k + 1)))
 
   left-stops : Stops s at low → loadEntries clock (count - k) low (drop at s) ≡ none
@@ -112,7 +112,7 @@ module _ (s : List ℕ) (at count own place low : ℕ) (held : Bool) (k : ℕ) (
   judged-end p h = answer held (λ clock. ap (judged own held) (left-end s place low clock count k p h) ∙ judged-none own held)
 
   module _ (p : k < count) (node seq age start size : ℕ) (x : EntryAt s place low node seq age start size) where
-    past : (b : Bool) → ((clock : ℕ) (o : Option (List Entry)) → judged own held (consTo (entryOf node seq (take size (drop start s)) age clock) o) ≡ judged own b o)
+    past : (b : Bool) → ((clock : ℕ) (o : Option (List Entry)) → judged own held (consTo (entryOf node seq (take size (drop start s)) (stamp age clock)) o) ≡ judged own b o)
         → Judging s at count own (start + size) (node + 1) b (k + 1)
     past b f =
         record {
@@ -123,10 +123,10 @@ module _ (s : List ℕ) (at count own place low : ℕ) (held : Bool) (k : ℕ) (
         }
 
     pub judging-own : node ≡ own → Judging s at count own (start + size) (node + 1) true (k + 1)
-    judging-own q = past true (λ clock o. judged-own own held (entryOf node seq (take size (drop start s)) age clock) o q)
+    judging-own q = past true (λ clock o. judged-own own held (entryOf node seq (take size (drop start s)) (stamp age clock)) o q)
 
     pub judging-other : ¬ (node ≡ own) → Judging s at count own (start + size) (node + 1) held (k + 1)
-    judging-other q = past held (λ clock o. judged-other own held (entryOf node seq (take size (drop start s)) age clock) o q)
+    judging-other q = past held (λ clock o. judged-other own held (entryOf node seq (take size (drop start s)) (stamp age clock)) o q)
 
 -- ---- the table as it fills
 
@@ -167,22 +167,22 @@ module _ (clock : ℕ) (s : List ℕ) (at count : ℕ) (m₀ : List ℕ) (t : Ta
             let n : metaAt t j .id < low = view-each t (f .kept .arranged) (λ e. idOf e < low) m j (f .below) c in
             omega (arith, x .high)
 
-    module _ (r : Table) (m′ : List ℕ) (st : Stored (entryOf node seq (take (start + size - start) (drop start s)) age clock) t m k r m′) (l : length m′ ≡ length m) where
+    module _ (r : Table) (m′ : List ℕ) (st : Stored (entryOf node seq (take (start + size - start) (drop start s)) (stamp age clock)) t m k r m′) (l : length m′ ≡ length m) where
       under-node : (b : ℕ) → node ≤ b → All (λ e. idOf e < b) (view t m)
       under-node b q = all-more (λ e. idOf e < low) (λ e. idOf e < b) (λ e n. omega (arith, x .high)) (view t m) (f .below)
 
-      grown : view r m′ ≡ view t m ++ (entryOf node seq (take size (drop start s)) age clock ∷ [])
+      grown : view r m′ ≡ view t m ++ (entryOf node seq (take size (drop start s)) (stamp age clock) ∷ [])
       unfolding put
       grown =
           let e : start + size - start ≡ size = omega arith in
-          rw e at (st .viewed) ∙ insert-last idOf (entryOf node seq (take size (drop start s)) age clock) (view t m) (under-node node (omega arith))
+          rw e at (st .viewed) ∙ insert-last idOf (entryOf node seq (take size (drop start s)) (stamp age clock)) (view t m) (under-node node (omega arith))
 
       laid-on : Lays m₀ (view r m′) r m′
       laid-on =
-          let e : Entry = entryOf node seq (take (start + size - start) (drop start s)) age clock in
+          let e : Entry = entryOf node seq (take (start + size - start) (drop start s)) (stamp age clock) in
           let n : start + size - start ≡ size = omega arith in
           subst (λ (es : List Entry). Lays m₀ es r m′)
-          (ap (λ (i : ℕ). view t m ++ (entryOf node seq (take i (drop start s)) age clock ∷ [])) n ∙ sym grown)
+          (ap (λ (i : ℕ). view t m ++ (entryOf node seq (take i (drop start s)) (stamp age clock) ∷ [])) n ∙ sym grown)
           (lays-then t r m₀ (view t m) m (e ∷ []) m′ (f .lays) (stored-one e t r m m′ k (f .kept) st))
 
       pub filling-next : Filling clock s at count m₀ r m′ (start + size) (node + 1) (k + 1)
@@ -191,13 +191,13 @@ module _ (clock : ℕ) (s : List ℕ) (at count : ℕ) (m₀ : List ℕ) (t : Ta
             inside = x .within;
             kept = st .kept;
             full =
-                let g = length-append (view t m) (entryOf node seq (take size (drop start s)) age clock ∷ []) in
+                let g = length-append (view t m) (entryOf node seq (take size (drop start s)) (stamp age clock) ∷ []) in
                 let c : length (view r m′) ≡ length (view t m) + 1 = ap length grown ∙ g in
                 omega (arith, view-length r (st .kept .arranged) m′, view-length t (f .kept .arranged) m, f .full);
-            below = all-stored (λ e. idOf e < node + 1) (entryOf node seq (take (start + size - start) (drop start s)) age clock) t r m m′ k st (omega arith) (under-node (node + 1) (omega arith));
+            below = all-stored (λ e. idOf e < node + 1) (entryOf node seq (take (start + size - start) (drop start s)) (stamp age clock)) t r m m′ k st (omega arith) (under-node (node + 1) (omega arith));
             same =
                 rw grown
-                (sym (onto-next (view t m) (entryOf node seq (take size (drop start s)) age clock) (loadEntries clock (count - (k + 1)) (node + 1) (drop (start + size) s)))
+                (sym (onto-next (view t m) (entryOf node seq (take size (drop start s)) (stamp age clock)) (loadEntries clock (count - (k + 1)) (node + 1) (drop (start + size) s)))
                 ∙ ap (onto (view t m)) (sym (left-on s place low clock count k p node seq age start size x)) ∙ f .same);
             size = l ∙ f .size;
             beyond = st .beyond ∙ f .beyond;

@@ -10,7 +10,7 @@ use Rattle.base.specs.Lists.{orElse, consTo, isSome}
 use Rattle.base.specs.Memory.{written}
 use Rattle.wire.specs.Order.{good}
 use Rattle.model.specs.Figures.{mostNodes, dataLimit, tableBytes, mostAge}
-use Rattle.model.specs.Table.{entryOf}
+use Rattle.model.specs.Table.{entryOf, stamp}
 use Rattle.model.specs.Snapshot.{loadEntries, holdsOwn, load}
 use Rattle.table.specs.View.{view, Kept, Lays}
 use Rattle.snapshot.specs.declared.read.EntryRead.{EntryRead}
@@ -35,7 +35,7 @@ pub record EntryAt (s : List ℕ) (at low node seq age start size : ℕ) : Type 
   pub short : size ≤ dataLimit
   pub fine : good dataLimit (take size (drop start s)) ≡ true
   pub loads : (clock n : ℕ) → loadEntries clock (n + 1) low (drop at s)
-      ≡ consTo (entryOf node seq (take size (drop start s)) age clock) (loadEntries clock n (node + 1) (drop (start + size) s))
+      ≡ consTo (entryOf node seq (take size (drop start s)) (stamp age clock)) (loadEntries clock n (node + 1) (drop (start + size) s))
 
 abbrev pub ReadEntry : List ℕ → ℕ → ℕ → EntryRead → Type 0
 ReadEntry s at low (Whole node seq age start size) = EntryAt s at low node seq age start size

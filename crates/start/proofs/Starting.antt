@@ -6,7 +6,7 @@ use lib.ListN.{length, getD, replicate}
 use Rattle.base.proofs.Places.{four-of}
 use Rattle.model.specs.Figures.{mostPeers, lastReading}
 use Rattle.model.specs.Sequence.{circle}
-use Rattle.model.specs.Table.{Entry, entryOf}
+use Rattle.model.specs.Table.{Entry, entryOf, anew}
 use Rattle.model.specs.State.{State as ModelState, Endpoint as ModelEndpoint}
 use Rattle.model.specs.Begin.{freshEndpoints, started, begun}
 use Rattle.model.specs.Invariant.{TableFits}
@@ -74,18 +74,18 @@ module _ (clock : ℕ) (s : State) (m : List ℕ) (k : Rep s m) where
 -- ---- beginning
 
 module _ (own clock : ℕ) (rs : List ℕ) (o : own < circle) (l : clock ≤ lastReading) (four : length rs ≡ 4) where
-  begun-fits : TableFits own clock (entryOf own 0 [] 0 clock ∷ [])
+  begun-fits : TableFits own clock (entryOf own 0 [] (anew clock) ∷ [])
   unfolding begun started
   begun-fits = begun-valid own clock rs o l four .inside .table
 
-  module _ (t : Table) (m : List ℕ) (v : view t m ≡ entryOf own 0 [] 0 clock ∷ []) (s : State) (h : Rep s m × (stateOf s m ≡ undigested own clock rs (view t m))) where
-    alone : stateOf s m ≡ undigested own clock rs (entryOf own 0 [] 0 clock ∷ [])
+  module _ (t : Table) (m : List ℕ) (v : view t m ≡ entryOf own 0 [] (anew clock) ∷ []) (s : State) (h : Rep s m × (stateOf s m ≡ undigested own clock rs (view t m))) where
+    alone : stateOf s m ≡ undigested own clock rs (entryOf own 0 [] (anew clock) ∷ [])
     alone = h .1 ∙ ap (undigested own clock rs) v
 
     pub begun-readable : Rep s m × (Readable clock (s .table) m × Held s m)
     unfolding undigested
-    begun-readable = (h .0, table-readable clock s m (h .0) (undigested own clock rs (entryOf own 0 [] 0 clock ∷ [])) alone begun-fits l)
+    begun-readable = (h .0, table-readable clock s m (h .0) (undigested own clock rs (entryOf own 0 [] (anew clock) ∷ [])) alone begun-fits l)
 
     pub begun-moved : (r : State) → Moved (digested clock (stateOf s m)) m r m → Moved (begun own clock rs) m r m
     unfolding begun
-    begun-moved r d = moved-to d (ap (digested clock) alone ∙ then-digested own clock rs (entryOf own 0 [] 0 clock ∷ []))
+    begun-moved r d = moved-to d (ap (digested clock) alone ∙ then-digested own clock rs (entryOf own 0 [] (anew clock) ∷ []))

@@ -23,7 +23,7 @@ use Rattle.base.proofs.Places.{find-at, insert-over, insert-between, all-at, ge
 use Rattle.base.proofs.Written.{part-length, part-there, spliced-length, cut-length, other-slot, written-outside, same-outside, written-above, written-there, written-length}
 use Rattle.sha256.specs.Sha256.{hash16}
 use Rattle.model.specs.Figures.{mostNodes, dataLimit, tableBytes}
-use Rattle.model.specs.Table.{Entry, entryOf, idOf, put, look}
+use Rattle.model.specs.Table.{Entry, entryOf, idOf, put, look, stamp, anew}
 use Rattle.table.specs.View.{noMeta, metaId, live, metaAt, dataOf, seen, view, OnlySlot, Free, Apart, FitMeta, Fit, Hashed, Arranged, Kept, metaOf, SlotsStay, Stands, Gap, Finding, Read, Stored, withEntries, withMeta, inserted, Renumbered, SlotUsed, Purged}
 use Rattle.table.specs.declared.Table.{Table}
 use Rattle.table.specs.declared.Found.{Found}
@@ -36,7 +36,7 @@ pub seen-ascending : (m : List ℕ) (l : List Meta) → Ascending metaId l → A
 seen-ascending m l h = rw (ascending-map (seen m) idOf l) h
 
 seen-meta : (m m′ : List ℕ) (e : Meta) → dataOf m′ e ≡ dataOf m e → seen m′ e ≡ seen m e
-seen-meta m m′ e q = ap (λ (d : List ℕ). entryOf (e .id) (e .seq) d (e .age) (e .since)) q
+seen-meta m m′ e q = ap (λ (d : List ℕ). entryOf (e .id) (e .seq) d (stamp (e .age) (e .since))) q
 
 seen-others : (m m′ : List ℕ) (s : ℕ) → OnlySlot s m m′ → (l : List Meta) → Fit l → Free s l → map (seen m′) l ≡ map (seen m) l
 seen-others m m′ s o [] f g = refl
@@ -221,7 +221,7 @@ module _ (t r : Table) (m : List ℕ) (e : Meta) (d : List ℕ) (i : ℕ) (k : K
   there : dataOf (written m (e .slot * dataLimit) d) e ≡ d
   there = rw n (written-there m d (e .slot * dataLimit) (omega (arith, f .0, f .1, k .room)))
 
-  pub stored : Stored (entryOf (e .id) (e .seq) d (e .age) (e .since)) t m i r (written m (e .slot * dataLimit) d)
+  pub stored : Stored (entryOf (e .id) (e .seq) d (stamp (e .age) (e .since))) t m i r (written m (e .slot * dataLimit) d)
   stored =
       let o : OnlySlot (e .slot) m (written m (e .slot * dataLimit) d) = written-outside m d (e .slot * dataLimit) dataLimit (omega (arith, f .0, k .room)) (omega (arith, f .1)) in
       record {
@@ -231,7 +231,7 @@ module _ (t r : Table) (m : List ℕ) (e : Meta) (d : List ℕ) (i : ℕ) (k : K
               room = rw (written-length m d (e .slot * dataLimit) (omega (arith, f .0, f .1, k .room))) (k .room);
               hashed = hashes-put t r e (k .arranged) most wide q f c m (written m (e .slot * dataLimit) d) o (h ∙ ap hash16 (sym there)) (k .hashed);
             };
-        viewed = view-put t r e (k .arranged) most wide q f c m (written m (e .slot * dataLimit) d) o ∙ ap (λ (z : List ℕ). put (entryOf (e .id) (e .seq) z (e .age) (e .since)) (view t m)) there;
+        viewed = view-put t r e (k .arranged) most wide q f c m (written m (e .slot * dataLimit) d) o ∙ ap (λ (z : List ℕ). put (entryOf (e .id) (e .seq) z (stamp (e .age) (e .since))) (view t m)) there;
         stands = record { at = b; named = ap metaId s };
         memory = ap (λ (z : Meta). written m (z .slot * dataLimit) d) (sym s);
         slots = slots-put t r e q u;
@@ -244,7 +244,7 @@ slot-had t e i k s q x h = let z : metaAt t i ≡ x = cc (stands-found t (e .id)
 
 -- over the entry of its node
 pub stored-over : (t : Table) (m : List ℕ) (e : Meta) (d : List ℕ) (i : ℕ) → Kept t m → Stands t (e .id) i → e .slot ≡ metaAt t i .slot → e .len ≡ length d → length d ≤ dataLimit → e .hash ≡ hash16 d
-    → Stored (entryOf (e .id) (e .seq) d (e .age) (e .since)) t m i (withMeta t i e) (written m (e .slot * dataLimit) d)
+    → Stored (entryOf (e .id) (e .seq) d (stamp (e .age) (e .since))) t m i (withMeta t i e) (written m (e .slot * dataLimit) d)
 stored-over t m e d i k s q n l h =
     let b : i < length (live t) = rw (live-length t (k .arranged)) (s .at) in
     let w : i < length (t .entries) = omega (arith, k .arranged .wide, k .arranged .most, s .at) in
@@ -255,7 +255,7 @@ stored-over t m e d i k s q n l h =
 
 -- a new one, in a free slot
 pub stored-new : (t : Table) (m : List ℕ) (e : Meta) (d : List ℕ) (i : ℕ) → Kept t m → t .count < 32 → Gap t (e .id) i → e .slot < 32 → Free (e .slot) (live t) → e .len ≡ length d → length d ≤ dataLimit → e .hash ≡ hash16 d
-    → Stored (entryOf (e .id) (e .seq) d (e .age) (e .since)) t m i (inserted t i e) (written m (e .slot * dataLimit) d)
+    → Stored (entryOf (e .id) (e .seq) d (stamp (e .age) (e .since))) t m i (inserted t i e) (written m (e .slot * dataLimit) d)
 stored-new t m e d i k p g s free n l h =
     stored t (inserted t i e) m e d i k (omega arith) long (live-new t i e (k .arranged) p g) (s, omega arith) (free-clear e (e .slot) (live t) refl free) n h (omega (arith, g .at)) there
     (λ x q. let z : _≡_ {A = ℕ} 0 1 = cc (gap-found t (e .id) i (k .arranged) g) in omega arith)
@@ -284,7 +284,7 @@ renumbered t e i k s q n h =
           };
       viewed = λ m.
           view-put t (withMeta t i e) e k (k .most) wide (live-over t i e k s) f c m m (same-outside m (e .slot * dataLimit) dataLimit)
-          ∙ ap (λ (z : List ℕ). put (entryOf (e .id) (e .seq) z (e .age) (e .since)) (view t m)) (same m);
+          ∙ ap (λ (z : List ℕ). put (entryOf (e .id) (e .seq) z (stamp (e .age) (e .since))) (view t m)) (same m);
       slots = slots-put t (withMeta t i e) e (live-over t i e k s) (slot-had t e i k s q);
     }
   where
@@ -318,20 +318,20 @@ meta-read t i k p =
 module _ (t r : Table) (m m′ d : List ℕ) (i id seq age since len slot at : ℕ) (hash : List ℕ) (k : Kept t m) (l : length d ≤ dataLimit) (n : len ≡ length d) (h : hash ≡ hash16 d) (a : at ≡ slot * dataLimit) (w : m′ ≡ written m at d) where
   pub replaced : (old : Meta) → Read t i old → slot ≡ old .slot → Stands t id i
       → r ≡ withMeta t i (record { id = id; seq = seq; age = age; len = len; slot = slot; since = since; hash = hash })
-      → Stored (entryOf id seq d age since) t m i r m′
+      → Stored (entryOf id seq d (stamp age since)) t m i r m′
   replaced old o q s e =
       rw (w, a, e) (stored-over t m (record { id = id; seq = seq; age = age; len = len; slot = slot; since = since; hash = hash }) d i k s (q ∙ ap (λ (x : Meta). x .slot) (o .same)) n l h)
 
   pub added : t .count < 32 → Gap t id i → slot < 32 → Free slot (live t)
       → r ≡ inserted t i (record { id = id; seq = seq; age = age; len = len; slot = slot; since = since; hash = hash })
-      → Stored (entryOf id seq d age since) t m i r m′
+      → Stored (entryOf id seq d (stamp age since)) t m i r m′
   added p g s f e = rw (w, a, e) (stored-new t m (record { id = id; seq = seq; age = age; len = len; slot = slot; since = since; hash = hash }) d i k p g s f n l h)
 
 -- data changed in place, and the digest taken from there
 pub edited : (t r : Table) (m m′ : List ℕ) (i id seq since len at : ℕ) (hash : List ℕ) (old : Meta) → Kept t m → Stands t id i → Read t i old → at ≡ old .slot * dataLimit
     → hash ≡ hash16 (take (at + len - at) (drop at m′))
     → r ≡ withMeta t i (record { id = id; seq = seq; age = 0; len = len; slot = old .slot; since = since; hash = hash })
-    → (d : List ℕ) → length d ≡ len → len ≤ dataLimit → m′ ≡ written m (metaAt t i .slot * dataLimit) d → Stored (entryOf id seq d 0 since) t m i r m′
+    → (d : List ℕ) → length d ≡ len → len ≤ dataLimit → m′ ≡ written m (metaAt t i .slot * dataLimit) d → Stored (entryOf id seq d (anew since)) t m i r m′
 edited t r m m′ i id seq since len at hash old k s o a h e d n l w =
     let v : m′ ≡ written m at d = w ∙ ap (λ (x : Meta). written m (x .slot * dataLimit) d) (sym (o .same)) ∙ ap (λ (x : ℕ). written m x d) (sym a) in
     replaced t r m m′ d i id seq 0 since len (old .slot) at hash k (omega arith) (sym n)
@@ -340,25 +340,25 @@ edited t r m m′ i id seq since len at hash old k s o a h e d n l w =
 -- bytes put in, or taken out: what is published then
 module _ (t r : Table) (m m′ : List ℕ) (i id seq since p at : ℕ) (old : Meta) (k : Kept t m) (o : Read t i old) (a : at ≡ old .slot * dataLimit) where
   abbrev Publishes : ℕ → Type 0
-  Publishes len = (x d : List ℕ) → Kept t x → length d ≡ len → m′ ≡ written x (metaAt t i .slot * dataLimit) d → Stored (entryOf id seq d 0 since) t x i r m′
+  Publishes len = (x d : List ℕ) → Kept t x → length d ≡ len → m′ ≡ written x (metaAt t i .slot * dataLimit) d → Stored (entryOf id seq d (anew since)) t x i r m′
 
   -- in the terms of the entry that was read
   in-place : (f : List ℕ → List ℕ) (len : ℕ) → length (f (part m (old .slot * dataLimit) (old .len))) ≡ len
       → m′ ≡ written m at (f (part m at (old .len))) → Publishes len
-      → Stored (entryOf id seq (f (dataOf m (metaAt t i))) 0 since) t m i r m′
+      → Stored (entryOf id seq (f (dataOf m (metaAt t i))) (anew since)) t m i r m′
   in-place f len n w e =
-      subst (λ (x : Meta). Stored (entryOf id seq (f (dataOf m x)) 0 since) t m i r m′) (o .same)
+      subst (λ (x : Meta). Stored (entryOf id seq (f (dataOf m x)) (anew since)) t m i r m′) (o .same)
       (e m (f (part m (old .slot * dataLimit) (old .len))) k n
       (w ∙ ap (λ (x : ℕ). written m x (f (part m x (old .len)))) a ∙ ap (λ (x : Meta). written m (x .slot * dataLimit) (f (part m (old .slot * dataLimit) (old .len)))) (o .same)))
 
   pub spliced-in : (b : List ℕ) → p ≤ metaAt t i .len → m′ ≡ written m at (spliced (part m at (old .len)) p b)
-      → Publishes (old .len + length b) → Stored (entryOf id seq (spliced (dataOf m (metaAt t i)) p b) 0 since) t m i r m′
+      → Publishes (old .len + length b) → Stored (entryOf id seq (spliced (dataOf m (metaAt t i)) p b) (anew since)) t m i r m′
   spliced-in b q w =
       in-place (λ (d : List ℕ). spliced d p b) (old .len + length b)
       (spliced-length m (old .slot * dataLimit) (old .len) p (omega (arith, o .low, o .short, k .room)) b (omega (arith, o .long))) w
 
   pub cut-out : (n : ℕ) → p + n ≤ metaAt t i .len → m′ ≡ written m at (cut (part m at (old .len)) p n)
-      → Publishes (old .len - n) → Stored (entryOf id seq (cut (dataOf m (metaAt t i)) p n) 0 since) t m i r m′
+      → Publishes (old .len - n) → Stored (entryOf id seq (cut (dataOf m (metaAt t i)) p n) (anew since)) t m i r m′
   cut-out n q w =
       in-place (λ (d : List ℕ). cut d p n) (old .len - n)
       (cut-length m (old .slot * dataLimit) (old .len) p (omega (arith, o .low, o .short, k .room)) n (omega (arith, o .long))) w
@@ -531,7 +531,7 @@ none-held m l h n =
 
 pub begun : (own clock : ℕ) (hash m : List ℕ) (l : List Meta) → tableBytes ≤ length m → hash ≡ hash16 [] → length l ≡ 31
     → Kept (record { count = 1; entries = record { id = own; seq = 0; age = 0; len = 0; slot = 0; since = clock; hash = hash } ∷ l }) m
-    × (view (record { count = 1; entries = record { id = own; seq = 0; age = 0; len = 0; slot = 0; since = clock; hash = hash } ∷ l }) m ≡ entryOf own 0 [] 0 clock ∷ [])
+    × (view (record { count = 1; entries = record { id = own; seq = 0; age = 0; len = 0; slot = 0; since = clock; hash = hash } ∷ l }) m ≡ entryOf own 0 [] (anew clock) ∷ [])
 unfolding view
 begun own clock hash m l r h n =
     (record { arranged = record { most = omega arith; wide = omega arith; ascending = (tt, tt); fit = ((omega arith, omega arith), tt); apart = (tt, tt) }; room = r; hashed = (h, tt) }, refl)

@@ -11,7 +11,7 @@ use Rattle.base.specs.Sorted.{find, Ascending}
 use Rattle.wire.specs.Order.{good}
 use Rattle.sha256.specs.Sha256.{hash16}
 use Rattle.model.specs.Figures.{mostNodes, dataLimit, tableBytes}
-use Rattle.model.specs.Table.{Entry, entryOf, idOf, put}
+use Rattle.model.specs.Table.{Entry, entryOf, idOf, put, stamp}
 use Rattle.table.specs.declared.Table.{Table}
 use Rattle.table.specs.declared.Entry.{Entry as Meta}
 use Rattle.table.specs.declared.Found.{Found}
@@ -35,7 +35,7 @@ dataOf m e = take (e .len) (drop (e .slot * dataLimit) m)
 
 -- the entry that e stands for, where its data are the bytes d
 abbrev pub entryWith : Meta → List ℕ → Entry
-entryWith e d = entryOf (e .id) (e .seq) d (e .age) (e .since)
+entryWith e d = entryOf (e .id) (e .seq) d (stamp (e .age) (e .since))
 
 abbrev pub seen : List ℕ → Meta → Entry
 seen m e = entryWith e (dataOf m e)
@@ -161,7 +161,7 @@ inserted t i e =
 pub record Renumbered (id seq age since : ℕ) (t : Table) (i : ℕ) (r : Table) : Type 0 where
   pub arranged : Arranged r
   pub kept : (m : List ℕ) → Kept t m → Kept r m
-  pub viewed : (m : List ℕ) → view r m ≡ put (entryOf id seq (dataOf m (metaAt t i)) age since) (view t m)
+  pub viewed : (m : List ℕ) → view r m ≡ put (entryOf id seq (dataOf m (metaAt t i)) (stamp age since)) (view t m)
   pub slots : SlotsStay t r
 
 -- an entry has slot s, or none has

@@ -13,7 +13,7 @@ ghost use Prim.Native.Nat.{ℕ, _+_, _-_, _*_, _≤_, _<_, min};
 ghost use lib.ListN.{length};
 ghost use Rattle.base.specs.Memory.{written, spliced, cut};
 ghost use Rattle.model.specs.Figures.{dataLimit, tableBytes, mostAge, lastReading};
-ghost use Rattle.model.specs.Table.{entryOf};
+ghost use Rattle.model.specs.Table.{entryOf, stamp, anew};
 ghost use Rattle.sha256.specs.Sha256.{hash16};
 ghost use Rattle.table.specs.View.{view, live, metaAt, dataOf, Free, FitMeta, Arranged, Kept, Stands, Gap, Finding, Read, Stored, Renumbered, Purged, SlotUsed, withMeta, inserted};
 
@@ -204,7 +204,7 @@ pub fn replace(
     bytes: &[u8],
 ) -> Table
     requires { ⌜ Kept t (now mem) × (Stands t id i × ((length (now bytes) ≤ dataLimit) × (hash ≡ hash16 (now bytes)))) ⌝ }
-    ensures { λ r. ⌜ Stored (entryOf id seq (now (bytes .entry)) age clock) t (now (mem .entry)) i r (now (mem .exit)) ⌝ }
+    ensures { λ r. ⌜ Stored (entryOf id seq (now (bytes .entry)) (stamp age clock)) t (now (mem .entry)) i r (now (mem .exit)) ⌝ }
 {
     let old = meta_at(t, i);
     let e = Entry {
@@ -233,7 +233,7 @@ pub fn insert(
     bytes: &[u8],
 ) -> Table
     requires { ⌜ Kept t (now mem) × ((t .count < 32) × (Gap t id i × ((length (now bytes) ≤ dataLimit) × (hash ≡ hash16 (now bytes))))) ⌝ }
-    ensures { λ r. ⌜ Stored (entryOf id seq (now (bytes .entry)) age clock) t (now (mem .entry)) i r (now (mem .exit)) ⌝ }
+    ensures { λ r. ⌜ Stored (entryOf id seq (now (bytes .entry)) (stamp age clock)) t (now (mem .entry)) i r (now (mem .exit)) ⌝ }
 {
     let e = Entry {
         id,
@@ -316,7 +316,7 @@ pub fn publish_slot(
     len: usize,
 ) -> Table
     requires { ⌜ Arranged t × (Stands t id i × ((len ≤ dataLimit) × (tableBytes ≤ length (now mem)))) ⌝ }
-    ensures { λ r. ⌜ ((m d : List ℕ) → Kept t m → length d ≡ len → now (mem .entry) ≡ written m (metaAt t i .slot * dataLimit) d → Stored (entryOf id seq d 0 clock) t m i r (now (mem .entry))) ⌝ }
+    ensures { λ r. ⌜ ((m d : List ℕ) → Kept t m → length d ≡ len → now (mem .entry) ≡ written m (metaAt t i .slot * dataLimit) d → Stored (entryOf id seq d (anew clock)) t m i r (now (mem .entry))) ⌝ }
 {
     let old = meta_at(t, i);
     let at = start_of(old);
@@ -349,7 +349,7 @@ pub fn insert_tlv(
     bytes: &[u8],
 ) -> Table
     requires { ⌜ Kept t (now mem) × (Stands t id i × ((p ≤ metaAt t i .len) × (metaAt t i .len + length (now bytes) ≤ dataLimit))) ⌝ }
-    ensures { λ r. ⌜ Stored (entryOf id seq (spliced (dataOf (now (mem .entry)) (metaAt t i)) p (now (bytes .entry))) 0 clock) t (now (mem .entry)) i r (now (mem .exit)) ⌝ }
+    ensures { λ r. ⌜ Stored (entryOf id seq (spliced (dataOf (now (mem .entry)) (metaAt t i)) p (now (bytes .entry))) (anew clock)) t (now (mem .entry)) i r (now (mem .exit)) ⌝ }
 {
     let old = meta_at(t, i);
     let len = old.len as usize;
@@ -369,7 +369,7 @@ pub fn remove_tlv(
     n: usize,
 ) -> Table
     requires { ⌜ Kept t (now mem) × (Stands t id i × (p + n ≤ metaAt t i .len)) ⌝ }
-    ensures { λ r. ⌜ Stored (entryOf id seq (cut (dataOf (now (mem .entry)) (metaAt t i)) p n) 0 clock) t (now (mem .entry)) i r (now (mem .exit)) ⌝ }
+    ensures { λ r. ⌜ Stored (entryOf id seq (cut (dataOf (now (mem .entry)) (metaAt t i)) p n) (anew clock)) t (now (mem .entry)) i r (now (mem .exit)) ⌝ }
 {
     let old = meta_at(t, i);
     let len = old.len as usize;
@@ -401,7 +401,7 @@ pub fn empty() -> Table
 // One node alone, with no data.
 pub fn begin(own: u32, clock: u64, mem: &[u8]) -> Table
     requires { ⌜ tableBytes ≤ length (now mem) ⌝ }
-    ensures { λ r. ⌜ Kept r (now (mem .entry)) × (view r (now (mem .entry)) ≡ entryOf own 0 [] 0 clock ∷ []) ⌝ }
+    ensures { λ r. ⌜ Kept r (now (mem .entry)) × (view r (now (mem .entry)) ≡ entryOf own 0 [] (anew clock) ∷ []) ⌝ }
 {
     let hash = hash16(&mem[0..0]);
     let e = Entry {
