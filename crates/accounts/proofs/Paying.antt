@@ -19,7 +19,7 @@ use Rattle.wire.specs.Answers.{Found}
 use Rattle.wire.specs.declared.order.Standing.{Standing}
 use Rattle.wire.specs.declared.order.Standing.the-variants.{At, Nowhere}
 use Rattle.wire.proofs.Good.{good-row, good-rises}
-use Rattle.model.specs.Figures.{dataLimit, lastReading}
+use Rattle.model.specs.Figures.{dataLimit, publishLimit, lastReading}
 use Rattle.model.specs.Sequence.{advance}
 use Rattle.model.specs.Refusals.{firstOf, paidAlready, full}
 use Rattle.model.specs.State.{State as ModelState, ownData, ownSeq, publishAs, publish, withTlv, settle}
@@ -80,11 +80,11 @@ module _ (household receipt : ℕ) (amount : ℤ) (small : SFits w32 amount) (d 
       nowhere : among (paymentTlv p) (tlvs (ownData s)) ≡ false
       nowhere = rw (e, written-tlv) at (subst (Found o (take n d′)) q k)
 
-      pub refused-full : dataLimit < length o + n → 9 ≡ firstOf (paidAlready p s ∷ full p s ∷ [])
-      refused-full l = rw (nowhere, lt-ltb dataLimit (length (ownData s) + length (paymentTlv p)) (omega (arith, ap length e, wrote .1)))
+      pub refused-full : publishLimit < length o + n → 9 ≡ firstOf (paidAlready p s ∷ full p s ∷ [])
+      refused-full l = rw (nowhere, lt-ltb publishLimit (length (ownData s) + length (paymentTlv p)) (omega (arith, ap length e, wrote .1)))
 
-      pub refused-not : length o + n ≤ dataLimit → 0 ≡ firstOf (paidAlready p s ∷ full p s ∷ [])
-      refused-not l = rw (nowhere, le-ltb dataLimit (length (ownData s) + length (paymentTlv p)) (omega (arith, ap length e, wrote .1)))
+      pub refused-not : length o + n ≤ publishLimit → 0 ≡ firstOf (paidAlready p s ∷ full p s ∷ [])
+      refused-not l = rw (nowhere, le-ltb publishLimit (length (ownData s) + length (paymentTlv p)) (omega (arith, ap length e, wrote .1)))
 
   -- ---- published and settled
 
@@ -94,7 +94,7 @@ module _ (household receipt : ℕ) (amount : ℤ) (small : SFits w32 amount) (d 
     paid-published = subst (λ (x : ModelState). Published x s m r m′) (rw (es, eo, written-tlv)) g
 
     pub paid-readable : Midway clock (stateOf s m) → among (paymentTlv p) (tlvs (ownData (stateOf s m))) ≡ false
-        → length (ownData (stateOf s m)) + length (paymentTlv p) ≤ dataLimit → clock ≤ lastReading → Readable clock (r .table) m′ × Held r m′
+        → length (ownData (stateOf s m)) + length (paymentTlv p) ≤ publishLimit → clock ≤ lastReading → Readable clock (r .table) m′ × Held r m′
     unfolding stateOf
     paid-readable w a l t =
         let h : Midway clock (stateOf r m′) = subst (Midway clock) (sym (paid-published .moved .is)) (published-midway clock p (stateOf s m) w a l) in

@@ -1,6 +1,6 @@
 // A payment into our own data.
-use model::figures::DATA_LIMIT;
 use model::figures::MOST_ENDPOINTS;
+use model::figures::PUBLISH_LIMIT;
 use model::sequence::advanced;
 use node::State;
 use node::publish::own_data;
@@ -19,7 +19,7 @@ ghost use lib.ListN.{length};
 ghost use Rattle.wire.specs.Row.{tlvs};
 ghost use Rattle.wire.specs.Order.{among};
 ghost use Rattle.wire.specs.Payment.{paymentTlv};
-ghost use Rattle.model.specs.Figures.{dataLimit, lastReading};
+ghost use Rattle.model.specs.Figures.{publishLimit, lastReading};
 ghost use Rattle.model.specs.Refusals.{firstOf, paidAlready, full};
 ghost use Rattle.model.specs.State.{ownData};
 ghost use Rattle.model.specs.Pay.{paid};
@@ -39,7 +39,7 @@ pub fn refusal(s: State, mem: &[u8], clock: u64, household: u32, receipt: u32, a
     let Standing::Nowhere = standing else {
         return 8;
     };
-    if DATA_LIMIT < ours.len() + n {
+    if PUBLISH_LIMIT < ours.len() + n {
         return 9;
     }
     0
@@ -55,7 +55,7 @@ pub fn pay(
     amount: i32,
     randoms: [u32; MOST_ENDPOINTS],
 ) -> State
-    requires { ⌜ Rep s (now mem) × (Midway clock (stateOf s (now mem)) × ((clock ≤ lastReading) × ((among (paymentTlv (paymentOf household receipt amount)) (tlvs (ownData (stateOf s (now mem)))) ≡ false) × (length (ownData (stateOf s (now mem))) + length (paymentTlv (paymentOf household receipt amount)) ≤ dataLimit)))) ⌝ }
+    requires { ⌜ Rep s (now mem) × (Midway clock (stateOf s (now mem)) × ((clock ≤ lastReading) × ((among (paymentTlv (paymentOf household receipt amount)) (tlvs (ownData (stateOf s (now mem)))) ≡ false) × (length (ownData (stateOf s (now mem))) + length (paymentTlv (paymentOf household receipt amount)) ≤ publishLimit)))) ⌝ }
     ensures { λ r. ⌜ Published (paid clock (paymentOf household receipt amount) randoms (stateOf s (now (mem .entry)))) s (now (mem .entry)) r (now (mem .exit)) ⌝ }
 {
     let mut tlv = [0u8; 20];

@@ -14,33 +14,37 @@ use Rattle.reply.specs.View.{contextOf, Work, workOf, Stepped, Open}
 use Rattle.table.specs.declared.Table.{Table}
 use Rattle.reply.specs.declared.Progress.{Progress}
 
-abbrev contextAt : ℕ → ℕ → Bool → Bool → ModelContext
-contextAt clock endpoint unicast others = record { clock = clock; endpoint = endpoint; unicast = unicast; others = others }
+-- the same call with another answer to that, in the code and in the model
+abbrev pub withOthers : Bool → Context → Context
+withOthers x c = record { own = c .own; clock = c .clock; endpoint = c .endpoint; unicast = c .unicast; random = c .random; others = x }
 
-module _ (clock endpoint : ℕ) (unicast a b : Bool) where
-  reply-same : (t : List ℕ) (w : ModelWork) → reply (contextAt clock endpoint unicast a) t w ≡ reply (contextAt clock endpoint unicast b) t w
+abbrev asking : ModelContext → Bool → ModelContext
+asking c x = record { clock = c .clock; endpoint = c .endpoint; unicast = c .unicast; random = c .random; others = x }
+
+module _ (c : ModelContext) (a b : Bool) where
+  reply-same : (t : List ℕ) (w : ModelWork) → reply (asking c a) t w ≡ reply (asking c b) t w
   unfolding reply piece
   reply-same t w = refl
 
-  replies-same : (ts : List (List ℕ)) (w : ModelWork) → replies (contextAt clock endpoint unicast a) ts w ≡ replies (contextAt clock endpoint unicast b) ts w
+  replies-same : (ts : List (List ℕ)) (w : ModelWork) → replies (asking c a) ts w ≡ replies (asking c b) ts w
   unfolding replies
   replies-same [] w = refl
   replies-same (t ∷ ts) w =
-      replies-same ts (reply (contextAt clock endpoint unicast a) t w) ∙ ap (replies (contextAt clock endpoint unicast b) ts) (reply-same t w)
+      replies-same ts (reply (asking c a) t w) ∙ ap (replies (asking c b) ts) (reply-same t w)
 
-  network-same : (w : ModelWork) → onRequestNetwork (contextAt clock endpoint unicast a) w ≡ onRequestNetwork (contextAt clock endpoint unicast b) w
+  network-same : (w : ModelWork) → onRequestNetwork (asking c a) w ≡ onRequestNetwork (asking c b) w
   unfolding onRequestNetwork
   network-same w = replies-same _ w
 
-  node-same : (n : ℕ) (w : ModelWork) → onRequestNode (contextAt clock endpoint unicast a) n w ≡ onRequestNode (contextAt clock endpoint unicast b) n w
+  node-same : (n : ℕ) (w : ModelWork) → onRequestNode (asking c a) n w ≡ onRequestNode (asking c b) n w
   unfolding onRequestNode reply piece
   node-same n w = refl
 
-  endpoint-same : (f : Sender) (w : ModelWork) → onEndpoint (contextAt clock endpoint unicast a) f w ≡ onEndpoint (contextAt clock endpoint unicast b) f w
+  endpoint-same : (f : Sender) (w : ModelWork) → onEndpoint (asking c a) f w ≡ onEndpoint (asking c b) f w
   unfolding onEndpoint onStranger greet askNetwork reply piece
   endpoint-same f w = refl
 
-  carry-same : (d : Decision) (w : ModelWork) → carryOut (contextAt clock endpoint unicast a) d w ≡ carryOut (contextAt clock endpoint unicast b) d w
+  carry-same : (d : Decision) (w : ModelWork) → carryOut (asking c a) d w ≡ carryOut (asking c b) d w
   unfolding carryOut
   carry-same Decision.ignored w = refl
   carry-same (Decision.ask n) w = reply-same _ w
@@ -48,28 +52,28 @@ module _ (clock endpoint : ℕ) (unicast a b : Bool) where
   carry-same (Decision.takeAll e) w = refl
   carry-same Decision.dropped w = refl
 
-  state-same : (r : Received) (w : ModelWork) → onState (contextAt clock endpoint unicast a) r w ≡ onState (contextAt clock endpoint unicast b) r w
+  state-same : (r : Received) (w : ModelWork) → onState (asking c a) r w ≡ onState (asking c b) r w
   unfolding onState onOwnState
   state-same r w =
-      ap (cond (eqb (r .node) (w .state .own)) (onOwnState (contextAt clock endpoint unicast b) r w)) (carry-same (decide clock (w .state .table) r) w)
+      ap (cond (eqb (r .node) (w .state .own)) (onOwnState (asking c b) r w)) (carry-same (decide (c .clock) (w .state .table) r) w)
 
-  others-same : (kind : ℕ) (v : List ℕ) (w : ModelWork) → eqb kind 4 ≡ false → onTlv (contextAt clock endpoint unicast a) kind v w ≡ onTlv (contextAt clock endpoint unicast b) kind v w
+  others-same : (kind : ℕ) (v : List ℕ) (w : ModelWork) → eqb kind 4 ≡ false → onTlv (asking c a) kind v w ≡ onTlv (asking c b) kind v w
   unfolding onTlv
   others-same kind v w z = rw (z, network-same w, node-same _ w, endpoint-same _ w, state-same _ w)
 
-  tlv-same : (kind : ℕ) (v : List ℕ) (w : ModelWork) → (kind ≡ 4 → a ≡ b) → onTlv (contextAt clock endpoint unicast a) kind v w ≡ onTlv (contextAt clock endpoint unicast b) kind v w
+  tlv-same : (kind : ℕ) (v : List ℕ) (w : ModelWork) → (kind ≡ 4 → a ≡ b) → onTlv (asking c a) kind v w ≡ onTlv (asking c b) kind v w
   tlv-same kind v w e = by-test (eqb kind 4) (λ z. rw (e (eqb-true kind 4 z))) (others-same kind v w)
 
-  one-same : (t : List ℕ) (w : ModelWork) → (typeOf t ≡ 4 → a ≡ b) → oneTlv (contextAt clock endpoint unicast a) t w ≡ oneTlv (contextAt clock endpoint unicast b) t w
+  one-same : (t : List ℕ) (w : ModelWork) → (typeOf t ≡ 4 → a ≡ b) → oneTlv (asking c a) t w ≡ oneTlv (asking c b) t w
   unfolding oneTlv touch
   one-same t w e = rw (tlv-same (typeOf t) (valueOf t) w e)
 
 -- so a step with another answer to that is the same step
 pub aside : {c : Context} (x : Bool) {k : ℕ} (t : List ℕ) {w : Work} {m r : List ℕ} {w′ : Work} {m′ r′ : List ℕ} → Stepped c k (oneTlv (contextOf c) t) w m r w′ m′ r′ → (typeOf t ≡ 4 → c .others ≡ x)
-    → let g : Context = record { own = c .own; clock = c .clock; endpoint = c .endpoint; unicast = c .unicast; others = x } in Stepped g k (oneTlv (contextOf g) t) w m r w′ m′ r′
+    → Stepped (withOthers x c) k (oneTlv (contextOf (withOthers x c)) t) w m r w′ m′ r′
 aside {c} x t {w = w} {m = m} {r = r} s e =
     record {
-      is = s .is ∙ one-same (c .clock) (c .endpoint) (c .unicast) (c .others) x t (workOf w m r) e;
+      is = s .is ∙ one-same (contextOf c) (c .others) x t (workOf w m r) e;
       sound = s .sound;
       omitted = s .omitted;
       dropped = s .dropped;
@@ -83,7 +87,7 @@ aside {c} x t {w = w} {m = m} {r = r} s e =
 
 -- nor do the parts ask
 pub open-aside : {c : Context} (x : Bool) {t : Table} {d : Progress} {m r : List ℕ} → Open c t d m r
-    → let g : Context = record { own = c .own; clock = c .clock; endpoint = c .endpoint; unicast = c .unicast; others = x } in Open g t d m r
+    → Open (withOthers x c) t d m r
 open-aside x h =
     record {
       marks = record { kept = h .marks .kept; fits = h .marks .fits; clock = h .marks .clock; cached = h .marks .cached };

@@ -3,14 +3,14 @@ use mathlib.Core.Path.{_≡_, refl, sym, ap, _∙_}
 use mathlib.Core.Bool.{Bool, true, false, _&&_}
 use mathlib.Core.List.{List, [], _∷_, _++_}
 use mathlib.Core.Option.{Option}
-use Prim.Native.Nat.{ℕ, _+_, _≤_, _<_}
+use Prim.Native.Nat.{ℕ, _+_, _-_, _≤_, _<_}
 use native.Mathlib.Omega.{arith}
 use lib.ListN.{length}
 use lib.Dec.{ltb, leb}
 use borrow.Author.Tests.{le-leb, lt-leb, le-ltb, lt-ltb, ltb-true, leb-true}
 use Rattle.base.specs.Lists.{any, orElse}
 use Rattle.base.proofs.Tests.{and-left, and-right, and-both, and-no, and-stop, no-way}
-use Rattle.model.specs.Figures.{mostPeers, dataLimit, peerBytes}
+use Rattle.model.specs.Figures.{mostPeers, publishLimit, peerBytes}
 use Rattle.model.specs.Sequence.{advance}
 use Rattle.model.specs.Table.{Entry}
 use Rattle.model.specs.State.{State as ModelState, ownData, publishAs, peerTlv, withTlv, isPeer}
@@ -44,46 +44,46 @@ use Rattle.exchange.proofs.Telling.{passes-of, told-still, told-to, tol
 
 -- room for a peer, as the code asks
 module _ (count n : ℕ) where
-  pub room-many : 16 ≤ count → false ≡ ltb count mostPeers && leb (n + peerBytes) dataLimit
-  room-many p = and-stop (ltb count mostPeers) (leb (n + peerBytes) dataLimit) (le-ltb count mostPeers p)
+  pub room-many : mostPeers ≤ count → false ≡ ltb count mostPeers && leb (n + peerBytes) publishLimit
+  room-many p = and-stop (ltb count mostPeers) (leb (n + peerBytes) publishLimit) (le-ltb count mostPeers p)
 
-  pub room-full : 1008 < n → false ≡ ltb count mostPeers && leb (n + peerBytes) dataLimit
-  room-full p = sym (and-no (ltb count mostPeers) (leb (n + peerBytes) dataLimit) (lt-leb (n + peerBytes) dataLimit (omega (arith, p))))
+  pub room-full : publishLimit - peerBytes < n → false ≡ ltb count mostPeers && leb (n + peerBytes) publishLimit
+  room-full p = sym (and-no (ltb count mostPeers) (leb (n + peerBytes) publishLimit) (lt-leb (n + peerBytes) publishLimit (omega (arith, p))))
 
-  pub room-left : count < 16 → n ≤ 1008 → true ≡ ltb count mostPeers && leb (n + peerBytes) dataLimit
-  room-left p q = sym (and-both (ltb count mostPeers) (leb (n + peerBytes) dataLimit) (lt-ltb count mostPeers p) (le-leb (n + peerBytes) dataLimit (omega (arith, q))))
+  pub room-left : count < mostPeers → n ≤ publishLimit - peerBytes → true ≡ ltb count mostPeers && leb (n + peerBytes) publishLimit
+  room-left p q = sym (and-both (ltb count mostPeers) (leb (n + peerBytes) publishLimit) (lt-ltb count mostPeers p) (le-leb (n + peerBytes) publishLimit (omega (arith, q))))
 
   -- and what it says
-  module _ (b : Bool) (e : b ≡ ltb count mostPeers && leb (n + peerBytes) dataLimit) (t : b ≡ true) where
+  module _ (b : Bool) (e : b ≡ ltb count mostPeers && leb (n + peerBytes) publishLimit) (t : b ≡ true) where
     pub room-count : count < mostPeers
-    room-count = ltb-true count mostPeers (and-left (ltb count mostPeers) (leb (n + peerBytes) dataLimit) (sym e ∙ t))
+    room-count = ltb-true count mostPeers (and-left (ltb count mostPeers) (leb (n + peerBytes) publishLimit) (sym e ∙ t))
 
-    pub room-data : (z : ℕ) → n ≡ z → z + peerBytes ≤ dataLimit
-    room-data z q = rw (sym q) (leb-true (n + peerBytes) dataLimit (and-right (ltb count mostPeers) (leb (n + peerBytes) dataLimit) (sym e ∙ t)))
+    pub room-data : (z : ℕ) → n ≡ z → z + peerBytes ≤ publishLimit
+    room-data z q = rw (sym q) (leb-true (n + peerBytes) publishLimit (and-right (ltb count mostPeers) (leb (n + peerBytes) publishLimit) (sym e ∙ t)))
 
 module _ (c : Context) (w : Work) (m r : List ℕ) (h : Sound (c .clock) w m r) (f : ModelSender) where
   -- room for a peer, by the numbers that the code has
-  room-is : roomForPeer (workOf w m r .state) ≡ ltb (w .state .peers .count) mostPeers && leb (length (ownData (stateOf (w .state) m)) + peerBytes) dataLimit
+  room-is : roomForPeer (workOf w m r .state) ≡ ltb (w .state .peers .count) mostPeers && leb (length (ownData (stateOf (w .state) m)) + peerBytes) publishLimit
   room-is = rw (work-state w m r, state-peers (w .state) m, peers-length (w .state .peers) (h .rep .peers))
 
   no-room : roomForPeer (workOf w m r .state) ≡ false → Stepped c 1 (greet (contextOf c) f) w m r (putDropped (w .dropped + 1) w) m r
   no-room e = stepped-dropped h (greet (contextOf c) f) (greet-full (contextOf c) (workOf w m r) f e)
 
   -- none: as many peers as there can be, or our data has no room for a Peer TLV
-  pub greeted-none : (b : Bool) (n : ℕ) → b ≡ ltb (w .state .peers .count) mostPeers && leb (n + peerBytes) dataLimit → n ≡ length (ownData (stateOf (w .state) m)) → b ≡ false
+  pub greeted-none : (b : Bool) (n : ℕ) → b ≡ ltb (w .state .peers .count) mostPeers && leb (n + peerBytes) publishLimit → n ≡ length (ownData (stateOf (w .state) m)) → b ≡ false
       → Stepped c 1 (greet (contextOf c) f) w m r (putDropped (w .dropped + 1) w) m r
   greeted-none b n e q t = no-room (room-is ∙ rw (sym q) (sym e ∙ t))
 
   -- a new peer
-  pub greeted : w .state .peers .count < mostPeers → length (ownData (stateOf (w .state) m)) + peerBytes ≤ dataLimit → (s : State) (m′ : List ℕ)
+  pub greeted : w .state .peers .count < mostPeers → length (ownData (stateOf (w .state) m)) + peerBytes ≤ publishLimit → (s : State) (m′ : List ℕ)
       → Published (addPeer (c .clock) (newPeer (contextOf c) f) (stateOf (w .state) m)) (w .state) m s m′ → Stepped c 1 (greet (contextOf c) f) w m r (putState s false w) m′ r
   greeted p q s m′ k =
       stepped-more
       (stepped-anew h (greet (contextOf c) f) (addPeer (c .clock) (newPeer (contextOf c) f) (stateOf (w .state) m)) s m′ k
       (greet-room (contextOf c) (workOf w m r) f
       (room-is
-      ∙ and-both (ltb (w .state .peers .count) mostPeers) (leb (length (ownData (stateOf (w .state) m)) + peerBytes) dataLimit)
-      (lt-ltb (w .state .peers .count) mostPeers p) (le-leb (length (ownData (stateOf (w .state) m)) + peerBytes) dataLimit q))
+      ∙ and-both (ltb (w .state .peers .count) mostPeers) (leb (length (ownData (stateOf (w .state) m)) + peerBytes) publishLimit)
+      (lt-ltb (w .state .peers .count) mostPeers p) (le-leb (length (ownData (stateOf (w .state) m)) + peerBytes) publishLimit q))
       ∙ ap (λ (x : ModelState). withState (addPeer (c .clock) (newPeer (contextOf c) f) x) (workOf w m r)) (work-state w m r)))
       1 (omega arith)
 
@@ -122,7 +122,7 @@ abbrev senderIn : Progress → ModelSender
 senderIn d = record { node = d .sender .node; endpoint = d .sender .endpoint }
 
 module _ (v : List ℕ) {c : Context} {t : Table} {p : Peers} {d : Progress} {m : List ℕ} (o : Markable c t d m) (i : ℕ) (s : Stands t (c .own) i) (n : ℕ) (l : n ≡ metaAt t i .len)
-    (x : Bool) (e : x ≡ ltb (p .count) mostPeers && leb (n + peerBytes) dataLimit) where
+    (x : Bool) (e : x ≡ ltb (p .count) mostPeers && leb (n + peerBytes) publishLimit) where
   own-size : (b : State) (r : List ℕ) → Sound (c .clock) (gather c b t p d) m r → n ≡ length (ownData (stateOf (gathered c b t p d) m))
   own-size b r h = l ∙ sym (own-length (gathered c b t p d) m i (h .rep) s)
 

@@ -4,7 +4,7 @@ use mathlib.Core.Bool.{Bool, true, false, cond, _&&_, _||_}
 use mathlib.Core.List.{List, [], _∷_, _++_, map}
 use Prim.Native.Nat.{ℕ, _+_, _≤_, _<_}
 use lib.ListN.{drop}
-use Rattle.model.specs.Figures.{mostPeers, dataLimit, peerBytes}
+use Rattle.model.specs.Figures.{mostPeers, publishLimit, peerBytes}
 use Rattle.model.specs.Sequence.{advance}
 use Rattle.model.specs.Trickle.{hear}
 use Rattle.model.specs.Table.{entryOf, stamp, anew}
@@ -98,7 +98,7 @@ TakenBy clock v Dropped t m t′ m′ = (t′ ≡ t) × (m′ ≡ m)
 pub record Joinable (c : Context) (own : ℕ) (t : Table) (m : List ℕ) : Type 0 where
   pub kept : Kept t m
   pub fits : TableFits own (c .clock) (view t m)
-  pub short : (i : ℕ) → Stands t own i → metaAt t i .len + peerBytes ≤ dataLimit
+  pub short : (i : ℕ) → Stands t own i → metaAt t i .len + peerBytes ≤ publishLimit
 
 -- they have the sender's, under the next number
 pub record Links (c : Context) (own : ℕ) (f : Sender) (t : Table) (m : List ℕ) (t′ : Table) (m′ : List ℕ) : Type 0 where

@@ -124,6 +124,8 @@ pub fn handle(
     ensures { λ r. ⌜ Handled s (now (mem .entry)) (now (room .entry)) (now (datagram .entry)) clock endpoint unicast randoms r (now (mem .exit)) (now (room .exit)) ⌝ }
 {
     let k = (endpoint - 1) as usize;
+    let numbers = randoms;
+    let random = numbers[k];
     let mut endpoints = s.endpoints;
     let local = endpoints[k];
     let call = Context {
@@ -131,6 +133,7 @@ pub fn handle(
         clock,
         endpoint,
         unicast,
+        random,
         others: false,
     };
     let mut t = s.table;

@@ -3,9 +3,9 @@ use crate::Act;
 use crate::Step;
 use crate::still;
 use decide::Decision;
-use model::figures::DATA_LIMIT;
 use model::figures::MOST_PEERS;
 use model::figures::PEER_BYTES;
+use model::figures::PUBLISH_LIMIT;
 use node::peers::Peers;
 use node::peers::is_known;
 use node::publish::own_place;
@@ -19,18 +19,18 @@ ghost use mathlib.Core.Bool.{_&&_, true};
 ghost use mathlib.Core.List.{List};
 ghost use Prim.Native.Nat.{ℕ, _+_};
 ghost use lib.Dec.{ltb, leb};
-ghost use Rattle.model.specs.Figures.{mostPeers, dataLimit, peerBytes};
+ghost use Rattle.model.specs.Figures.{mostPeers, publishLimit, peerBytes};
 ghost use Rattle.model.specs.Handle.{greet, onEndpoint};
 ghost use Rattle.node.specs.View.{PeersRep};
 ghost use Rattle.reply.specs.View.{contextOf, Markable};
 ghost use Rattle.exchange.specs.Told.{Told};
 
 // Our data have no room for a Peer TLV above this length.
-const FULL: usize = DATA_LIMIT - PEER_BYTES;
+const FULL: usize = PUBLISH_LIMIT - PEER_BYTES;
 
 // Room for another peer: in the list of 16, and for its TLV of 16 bytes in our data.
 fn has_room(count: usize, len: usize) -> bool
-    ensures { λ r. ⌜ r ≡ ltb count mostPeers && leb (len + peerBytes) dataLimit ⌝ }
+    ensures { λ r. ⌜ r ≡ ltb count mostPeers && leb (len + peerBytes) publishLimit ⌝ }
 {
     if MOST_PEERS <= count {
         return false;

@@ -3,9 +3,9 @@ use mathlib.Core.Path.{_≡_, refl, sym, ap, subst, _∙_}
 use mathlib.Core.Bool.{Bool, true, false, cond}
 use mathlib.Core.List.{List, [], _∷_, _++_, map, append-nil}
 use mathlib.Core.Logic.{_⊎_, inl, inr, ⊎-elim}
-use Prim.Native.Nat.{ℕ, pred, _≤_}
+use Prim.Native.Nat.{ℕ, _≤_}
 use native.Mathlib.Omega.{arith}
-use lib.ListN.{length, getD, take, replicate}
+use lib.ListN.{length, take, replicate}
 use Rattle.base.specs.Lists.{In, joinAll}
 use Rattle.base.specs.Bytes.{big32}
 use Rattle.base.specs.Sorted.{Ascending}
@@ -20,7 +20,7 @@ use Rattle.model.specs.Show.{Marks as ModelMarks, refusalMarks, marks}
 use Rattle.model.specs.Totals.{Summed as ModelSummed, totalOf, sumOf, unreadable, paymentsIn}
 use Rattle.model.specs.Figures.{tableBytes}
 use Rattle.model.specs.Trickle.{event}
-use Rattle.model.specs.State.{State as ModelState, endpointAt, settle}
+use Rattle.model.specs.State.{State as ModelState, endpointAt, randomAt, settle}
 use Rattle.model.specs.Begin.{Done as ModelDone}
 use Rattle.model.specs.Tick.{Sent as ModelSent, dropSilent, announcement, ticked, refusalTick, tick}
 use Rattle.model.specs.Pay.{purged, refusalPurge, purge}
@@ -144,7 +144,7 @@ announces : (clock i : ℕ) (rs : List ℕ) (s : ModelState) → let r : ModelSe
     (r .bytes ≡ []) ⊎ (r .bytes ≡ endpointTlv (r .state .own) i ++ networkTlv (networkDigest (r .state .own) clock (r .state .table)))
 unfolding ticked settle
 announces clock i rs s =
-    go (event clock (getD rs (pred i) 0) (endpointAt i (settle clock rs (dropSilent clock i s)) .trickle) .sends)
+    go (event clock (randomAt i rs) (endpointAt i (settle clock rs (dropSilent clock i s)) .trickle) .sends)
   where
     go : (b : Bool) → (cond b (announcement i (settle clock rs (dropSilent clock i s))) [] ≡ []) ⊎ (cond b (announcement i (settle clock rs (dropSilent clock i s))) [] ≡ announcement i (settle clock rs (dropSilent clock i s)))
     go true = inr refl

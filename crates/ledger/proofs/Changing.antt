@@ -12,7 +12,7 @@ use Rattle.base.proofs.Tests.{no-way}
 use Rattle.wire.specs.Row.{tlvs}
 use Rattle.wire.specs.Order.{among}
 use Rattle.wire.specs.Payment.{Payment, paymentTlv}
-use Rattle.model.specs.Figures.{dataLimit, tableBytes}
+use Rattle.model.specs.Figures.{publishLimit, tableBytes}
 use Rattle.model.specs.Sequence.{circle}
 use Rattle.model.specs.Table.{Entry}
 use Rattle.model.specs.Refusals.{Row, firstOf, late, back, smallTable, noHousehold, paidAlready, full}
@@ -131,10 +131,10 @@ module _ (s : State) (m : List ℕ) (l : AsLeft s m) (clock : ℕ) (rs : List �
     pay-last e = sym (first-late early last (omega arith) e)
 
     pub pay-room : firstOf last ≡ 0
-        → (among (paymentTlv p) (tlvs (ownData (stateOf s m))) ≡ false) × (length (ownData (stateOf s m)) + length (paymentTlv p) ≤ dataLimit)
+        → (among (paymentTlv p) (tlvs (ownData (stateOf s m))) ≡ false) × (length (ownData (stateOf s m)) + length (paymentTlv p) ≤ publishLimit)
     pay-room e =
         let a : All (λ (r : Row). r .applies ≡ false) last = none-first last (omega arith) e in
-        (a .0, ltb-false dataLimit (length (ownData (stateOf s m)) + length (paymentTlv p)) (a .1 .0))
+        (a .0, ltb-false publishLimit (length (ownData (stateOf s m)) + length (paymentTlv p)) (a .1 .0))
 
   -- resuming: only the snapshot itself can be refused, once clock and memory are in order
   module _ (bytes : List ℕ) where

@@ -16,7 +16,7 @@ use Rattle.wire.specs.Order.{ascending, good, among}
 use Rattle.wire.specs.Row.{tlvs}
 use Rattle.wire.specs.Payment.{Payment, paymentTlv}
 use Rattle.wire.proofs.Good.{good-made}
-use Rattle.model.specs.Figures.{dataLimit, lastReading, leastInterval}
+use Rattle.model.specs.Figures.{dataLimit, publishLimit, lastReading, leastInterval}
 use Rattle.model.specs.Sequence.{circle, advance}
 use Rattle.model.specs.Table.{Entry, idOf, entryOf, underAge, look, put, anew}
 use Rattle.model.specs.Reach.{Vertex, vertices, isNode, level0, levels, met, marked, inReach, reached}
@@ -30,7 +30,7 @@ use Rattle.model.proofs.Snapshots.{load-fits}
 use Rattle.model.specs.Invariant.{SnapshotFits}
 use Rattle.model.proofs.KeptParts.{none-applies, not-late, not-back, found, valid-midway, midway-held, midway-own, look-put, put-fits, publish-kept, advance-fits, fresh-fits, settle-valid}
 use Rattle.base.proofs.Options.{by-cond, by-or-else}
-use Rattle.model.proofs.KeptData.{none-good, none-linked, empty-linked, paid-good, paid-linked}
+use Rattle.model.proofs.KeptData.{acceptable, none-good, none-linked, empty-linked, paid-good, paid-linked}
 
 -- ---- a state that is started: no peers, so no Peer TLV of ours
 
@@ -129,16 +129,16 @@ module _ (clock : ℕ) (bytes rs : List ℕ) (table : ℕ) (s : State) where
 
 -- our data with the payment, published under the number after ours
 module _ (clock : ℕ) (p : Payment) (s : State) where
-  pub published-midway : Midway clock s → among (paymentTlv p) (tlvs (ownData s)) ≡ false → length (ownData s) + length (paymentTlv p) ≤ dataLimit
+  pub published-midway : Midway clock s → among (paymentTlv p) (tlvs (ownData s)) ≡ false → length (ownData s) + length (paymentTlv p) ≤ publishLimit
       → Midway clock (publish clock (withTlv (paymentTlv p) (ownData s)) s)
   unfolding publishAs
   published-midway m n room =
       let g : good dataLimit (ownData s) ≡ true = midway-own s m .fine in
       publish-kept (advance (ownSeq s) 1) (withTlv (paymentTlv p) (ownData s)) (s .peers) s m (advance-fits (ownSeq s) 1)
-      (paid-good p (ownData s) (s .peers) (m .links) g n room) (m .peers) (paid-linked p (ownData s) (s .peers) (m .links) g n room)
+      (paid-good p (ownData s) (s .peers) (m .links) g n (acceptable room)) (m .peers) (paid-linked p (ownData s) (s .peers) (m .links) g n (acceptable room))
 
 module _ (clock : ℕ) (p : Payment) (rs : List ℕ) (s : State) where
-  pub paid-valid : Midway clock s → among (paymentTlv p) (tlvs (ownData s)) ≡ false → length (ownData s) + length (paymentTlv p) ≤ dataLimit → clock ≤ lastReading → Valid (paid clock p rs s)
+  pub paid-valid : Midway clock s → among (paymentTlv p) (tlvs (ownData s)) ≡ false → length (ownData s) + length (paymentTlv p) ≤ publishLimit → clock ≤ lastReading → Valid (paid clock p rs s)
   unfolding paid
   paid-valid m n room l = settle-valid clock rs (publish clock (withTlv (paymentTlv p) (ownData s)) s) (published-midway clock p s m n room) l
 
@@ -159,7 +159,7 @@ module _ (clock : ℕ) (p : Payment) (rs : List ℕ) (table : ℕ) (s : State) w
       accepted : All (λ r. r .applies ≡ false) rowsPay → Valid (paid clock p rs s)
       accepted a =
           paid-valid clock p rs s (valid-midway clock s v (not-back clock s (a .1 .0))) (a .1 .1 .1 .1 .0)
-          (ltb-false dataLimit (length (ownData s) + length (paymentTlv p)) (a .1 .1 .1 .1 .1 .0)) (not-late clock (a .0))
+          (ltb-false publishLimit (length (ownData s) + length (paymentTlv p)) (a .1 .1 .1 .1 .1 .0)) (not-late clock (a .0))
 
   pub pay-own : pay clock p rs table s .state .own ≡ s .own
   unfolding pay

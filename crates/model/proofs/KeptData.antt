@@ -19,7 +19,7 @@ use Rattle.wire.proofs.Ordering.{same-is, same-self}
 use Rattle.wire.proofs.Rows.{tlvs-end}
 use Rattle.wire.proofs.Good.{Whole, place-good, place-tlvs, keep-good, keep-tlvs, place-in, in-place, among-in}
 use Rattle.wire.proofs.Encoded.{encode-whole, encode-type, encode-value, encode-length, payment-whole, payment-type}
-use Rattle.model.specs.Figures.{dataLimit, mostPeers, peerBytes}
+use Rattle.model.specs.Figures.{dataLimit, publishLimit, mostPeers, peerBytes}
 use Rattle.model.specs.State.{Peer, peerTlv, withTlv, isPeer}
 use Rattle.model.specs.Tick.{withoutPeers}
 use Rattle.model.specs.Snapshot.{withoutLinks}
@@ -131,6 +131,10 @@ module _ {own clock : ℕ} (ps : List Peer) (h : PeersFit own clock ps) where
       record { few = omega (arith, keep-few f ps); once = once-keep f ps (h .once); all = all-keep (PeerFits own clock) f ps (h .all) }
 
 -- ---- a TLV put in its place
+
+-- what we publish is accepted
+pub acceptable : {n : ℕ} → n ≤ publishLimit → n ≤ dataLimit
+acceptable p = omega (arith, p)
 
 module _ (t d : List ℕ) (g : good dataLimit d ≡ true) (w : Whole t) (n : among t (tlvs d) ≡ false) (l : length d + length t ≤ dataLimit) where
   pub put-good : good dataLimit (withTlv t d) ≡ true

@@ -16,7 +16,7 @@ use Rattle.base.proofs.Sorted.{find-some}
 use Rattle.sha256.specs.Sha256.{hash16}
 use Rattle.wire.specs.Row.{lengthOf, valueOf, tlvs}
 use Rattle.wire.specs.Order.{good}
-use Rattle.model.specs.Figures.{mostNodes, dataLimit, mostPeers, mostAge, peerBytes, requestGap, reclaimStep, mostBytes}
+use Rattle.model.specs.Figures.{mostNodes, dataLimit, publishLimit, mostPeers, mostAge, peerBytes, requestGap, reclaimStep, mostBytes}
 use Rattle.model.specs.Sequence.{circle, advance}
 use Rattle.model.specs.Table.{Entry, idOf, look}
 use Rattle.model.specs.Trickle.{hear}
@@ -27,7 +27,7 @@ use Rattle.model.specs.Refusals.{Row, late, back, noSuchEndpoint, smallR
 use Rattle.model.specs.Receive.{Call, Answer, contextOf, startOf, handled, refusalReceive, answered, receive}
 use Rattle.model.specs.Invariant.{EntryFits, PeerFits, EndpointFits, Valid, Midway}
 use Rattle.model.proofs.KeptParts.{none-applies, not-late, not-back, one-to-four, valid-midway, settle-valid, settle-own, midway-own, foreign-kept, publish-kept, republish-kept, advance-fits, touch-kept, endpoint-fits, endpoint-kept, hear-fits, with-trickle}
-use Rattle.model.proofs.KeptData.{known, peers-new, peer-good, peer-linked}
+use Rattle.model.proofs.KeptData.{known, acceptable, peers-new, peer-good, peer-linked}
 use Rattle.wire.proofs.Good.{tlvs-bytes}
 use Rattle.base.proofs.Options.{by-cond, by-or-else}
 use Rattle.base.proofs.Lists.{all-in, in-all}
@@ -114,7 +114,7 @@ pub add-kept : (clock : ℕ) (p : Peer) (s : State) → Midway clock s → PeerF
 unfolding addPeer
 add-kept clock p s m f u b =
     let few : length (s .peers) < mostPeers = ltb-true (length (s .peers)) mostPeers (and-left _ _ b) in
-    let room : length (ownData s) + peerBytes ≤ dataLimit = leb-true (length (ownData s) + peerBytes) dataLimit (and-right (ltb (length (s .peers)) mostPeers) _ b) in
+    let room : length (ownData s) + peerBytes ≤ dataLimit = acceptable (leb-true (length (ownData s) + peerBytes) publishLimit (and-right (ltb (length (s .peers)) mostPeers) _ b)) in
     let g : good dataLimit (ownData s) ≡ true = midway-own s m .fine in
     publish-kept (advance (ownSeq s) 1) (withTlv (peerTlv p) (ownData s)) (s .peers ++ (p ∷ [])) s m (advance-fits (ownSeq s) 1)
     (peer-good p (ownData s) (s .peers) (m .links) u g room)

@@ -2,9 +2,8 @@
 use mathlib.Core.Path.{_≡_, refl}
 use mathlib.Core.Bool.{true, false, not, _||_}
 use mathlib.Core.List.{List, [], _∷_}
-use Prim.Native.Nat.{ℕ, pred, _≤_}
+use Prim.Native.Nat.{ℕ, _≤_}
 use native.Mathlib.Omega.{arith}
-use lib.ListN.{getD}
 use lib.Dec.{eqb, leb}
 use Rattle.base.specs.Lists.{keep, All}
 use Rattle.wire.specs.Order.{good}
@@ -12,7 +11,7 @@ use Rattle.model.specs.Figures.{dataLimit, refreshAge, mostBytes, lastRe
 use Rattle.model.specs.Sequence.{advance}
 use Rattle.model.specs.Table.{ageAt}
 use Rattle.model.specs.Trickle.{event}
-use Rattle.model.specs.State.{State, Peer, withPeers, endpointAt, withTrickle, ownEntry, ownSeq, ownData, publish, settle}
+use Rattle.model.specs.State.{State, Peer, withPeers, endpointAt, randomAt, withTrickle, ownEntry, ownSeq, ownData, publish, settle}
 use Rattle.model.specs.Refusals.{Row, late, back, noSuchEndpoint, smallRoom}
 use Rattle.model.specs.Tick.{goes, withoutPeers, someOf, dropSilent, Sent, withEvent, ticked, refusalTick, tick}
 use Rattle.model.specs.Invariant.{EndpointFits, Valid, Midway}
@@ -54,7 +53,7 @@ module _ (clock i : ℕ) (rs : List ℕ) (s : State) where
   unfolding ticked settle
   ticked-valid m low high l =
       record {
-        inside = event-kept clock i (getD rs (pred i) 0) (settle clock rs (dropSilent clock i s)) low high (settle-midway clock rs (dropSilent clock i s) (silent-kept clock i s m));
+        inside = event-kept clock i (randomAt i rs) (settle clock rs (dropSilent clock i s)) low high (settle-midway clock rs (dropSilent clock i s) (silent-kept clock i s m));
         last = l;
         digest = refl;
       }

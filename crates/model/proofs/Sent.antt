@@ -4,9 +4,9 @@ use mathlib.Core.Path.{_≡_, refl, sym, ap, subst, _∙_}
 use mathlib.Core.Bool.{Bool, true, false, cond}
 use mathlib.Core.List.{List, [], _∷_, _++_, append-nil}
 use mathlib.Core.Logic.{inl, inr}
-use Prim.Native.Nat.{ℕ, pred, _+_, _≤_}
+use Prim.Native.Nat.{ℕ, _+_, _≤_}
 use native.Mathlib.Omega.{arith}
-use lib.ListN.{length, getD, length-append}
+use lib.ListN.{length, length-append}
 use lib.Dec.{eqb}
 use borrow.Author.Tests.{eqb-true, eqb-false}
 use Rattle.base.specs.Lists.{joinAll}
@@ -20,7 +20,7 @@ use Rattle.model.specs.Figures.{mostBytes}
 use Rattle.model.specs.Table.{Entry}
 use Rattle.model.specs.Digest.{digestOf, networkDigest}
 use Rattle.model.specs.Trickle.{event}
-use Rattle.model.specs.State.{State, endpointAt, settle}
+use Rattle.model.specs.State.{State, endpointAt, randomAt, settle}
 use Rattle.model.specs.Messages.{endpointTlv, networkTlv}
 use Rattle.model.specs.Handle.{Context, Work, oneTlv, allTlvs}
 use Rattle.model.specs.Receive.{Call, contextOf, startOf, refusalReceive, receive}
@@ -99,7 +99,7 @@ unfolding ticked
 ticked-form clock i rs s =
     let d : State = dropSilent clock i s in
     subst (λ (n : ℕ). Form n i (ticked clock i rs s .bytes)) (silent-own clock i s)
-    (settled-form clock i rs d (event clock (getD rs (pred i) 0) (endpointAt i (settle clock rs d) .trickle) .sends))
+    (settled-form clock i rs d (event clock (randomAt i rs) (endpointAt i (settle clock rs d) .trickle) .sends))
 
 tick-form : (clock i : ℕ) (rs : List ℕ) (table room : ℕ) (s : State) → Form (s .own) i (tick clock i rs table room s .bytes)
 tick-form clock i rs table room s =

@@ -2,13 +2,17 @@
 use Rattle.base.specs.Bytes.{mostU32}
 use Prim.Native.Nat.{ℕ, _*_}
 
--- nodes with our own, and bytes of node data each; the table memory has a slot for each
+-- nodes with our own; bytes of node data that we accept and hold of each, and that we let our own come to by publishing more
 abbrev pub mostNodes : ℕ
 mostNodes = 32
 
 abbrev pub dataLimit : ℕ
 dataLimit = 1024
 
+abbrev pub publishLimit : ℕ
+publishLimit = dataLimit
+
+-- the table memory has a slot for each node
 abbrev pub tableBytes : ℕ
 tableBytes = mostNodes * dataLimit
 

@@ -8,7 +8,7 @@ use lib.Dec.{eqb, ltb, leb}
 use Rattle.base.specs.Lists.{any, orElse}
 use Rattle.base.specs.Bytes.{u32At, same}
 use Rattle.wire.specs.Row.{typeOf, valueOf}
-use Rattle.model.specs.Figures.{mostBytes, mostPeers, dataLimit, peerBytes, requestGap, reclaimStep}
+use Rattle.model.specs.Figures.{mostBytes, mostPeers, publishLimit, peerBytes, requestGap, reclaimStep}
 use Rattle.model.specs.Sequence.{advance}
 use Rattle.model.specs.Table.{Entry, look}
 use Rattle.model.specs.Reach.{inReach, reached}
@@ -18,11 +18,13 @@ use Rattle.model.specs.State.{State, Peer, withTable, withPeers, endpoin
 use Rattle.model.specs.Messages.{requestNetworkTlv, requestNodeTlv, endpointTlv, networkTlv, shortState, wholeState}
 use Rattle.model.specs.Decide.{Received, Decision, receivedOf, differs, decide, after}
 
--- what holds for every TLV of a call; `others`: "a Node State of length 28 or more about another box is in this datagram"
+-- what holds for every TLV of a call; `random`: the call's random number for this endpoint, for rules that start its Trickle afresh at a TLV (document 01 has
+-- none); `others`: "a Node State of length 28 or more about another box is in this datagram"
 pub record Context : Type 0 where
   pub clock : ℕ
   pub endpoint : ℕ
   pub unicast : Bool
+  pub random : ℕ
   pub others : Bool
 
 pub record Sender : Type 0 where
@@ -118,7 +120,7 @@ newPeer c f = record { node = f .node; theirs = f .endpoint; ours = c .endpoint;
 
 -- "if fewer than 16 stand and our data has 16 bytes left"
 abbrev pub roomForPeer : State → Bool
-roomForPeer s = ltb (length (s .peers)) mostPeers && leb (length (ownData s) + peerBytes) dataLimit
+roomForPeer s = ltb (length (s .peers)) mostPeers && leb (length (ownData s) + peerBytes) publishLimit
 
 -- "it becomes a peer .., with last contact now, and we publish the Peer TLV"
 unfoldable pub addPeer : ℕ → Peer → State → State

@@ -9,7 +9,7 @@ use Rattle.base.specs.Lists.{any}
 use Rattle.base.specs.Bytes.{u32At}
 use Rattle.wire.specs.Row.{typeOf, valueOf, tlvs}
 use Rattle.model.specs.Figures.{mostBytes}
-use Rattle.model.specs.State.{State, settle}
+use Rattle.model.specs.State.{State, randomAt, settle}
 use Rattle.model.specs.Handle.{Context, Work, allTlvs}
 use Rattle.model.specs.Refusals.{firstOf, late, back, noSuchEndpoint, smallRoom, long, noRow}
 
@@ -37,7 +37,13 @@ aboutOther own t = (eqb (typeOf t) 5 && leb 28 (length (valueOf t))) && not (eqb
 
 abbrev pub contextOf : State → Call → Context
 contextOf s c =
-    record { clock = c .clock; endpoint = c .endpoint; unicast = c .unicast; others = any (aboutOther (s .own)) (tlvs (c .datagram)) }
+    record {
+      clock = c .clock;
+      endpoint = c .endpoint;
+      unicast = c .unicast;
+      random = randomAt (c .endpoint) (c .randoms);
+      others = any (aboutOther (s .own)) (tlvs (c .datagram));
+    }
 
 -- before the first TLV: no sender, nothing written
 abbrev pub startOf : State → Work

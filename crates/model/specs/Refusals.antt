@@ -8,7 +8,7 @@ use Rattle.base.specs.Lists.{isSome}
 use Rattle.wire.specs.Row.{isRow, tlvs}
 use Rattle.wire.specs.Order.{among}
 use Rattle.wire.specs.Payment.{Payment, mostHousehold, paymentTlv}
-use Rattle.model.specs.Figures.{mostEndpoints, lastReading, tableBytes, mostBytes, dataLimit}
+use Rattle.model.specs.Figures.{mostEndpoints, lastReading, tableBytes, mostBytes, publishLimit}
 use Rattle.model.specs.Table.{look}
 use Rattle.model.specs.State.{State, ownData}
 
@@ -57,7 +57,7 @@ abbrev pub paidAlready : Payment → State → Row
 paidAlready p s = record { number = 8; applies = among (paymentTlv p) (tlvs (ownData s)) }
 
 abbrev pub full : Payment → State → Row
-full p s = record { number = 9; applies = ltb dataLimit (length (ownData s) + length (paymentTlv p)) }
+full p s = record { number = 9; applies = ltb publishLimit (length (ownData s) + length (paymentTlv p)) }
 
 -- 10: "no such box in the table"
 abbrev pub noSuchNode : ℕ → State → Row

@@ -56,6 +56,10 @@ noEndpoint = record { trickle = record { start = 0; point = 0; interval = 0; cou
 abbrev pub endpointAt : ℕ → State → Endpoint
 endpointAt i s = getD (s .endpoints) (pred i) noEndpoint
 
+-- the random number for endpoint i among those of a call
+abbrev pub randomAt : ℕ → List ℕ → ℕ
+randomAt i randoms = getD randoms (pred i) 0
+
 abbrev pub withEndpoint : ℕ → Endpoint → State → State
 withEndpoint i e s = withEndpoints (set (s .endpoints) (pred i) e) s
 

@@ -1,8 +1,8 @@
 -- A tick of one endpoint: silent peers go, then at most one Trickle event (document 01, Ticks; RFC 7787, 6.1.5). Assumes nothing.
 use mathlib.Core.Bool.{Bool, true, false, not, cond, _&&_, _||_}
 use mathlib.Core.List.{List, [], _∷_, _++_}
-use Prim.Native.Nat.{ℕ, _-_, _*_, pred}
-use lib.ListN.{length, getD}
+use Prim.Native.Nat.{ℕ, _-_, _*_}
+use lib.ListN.{length}
 use lib.Dec.{eqb, leb}
 use Rattle.base.specs.Lists.{any, keep, first, joinAll, orElse}
 use Rattle.base.specs.Bytes.{u32At, same}
@@ -10,7 +10,7 @@ use Rattle.wire.specs.Row.{typeOf, valueOf, tlvs}
 use Rattle.model.specs.Figures.{usualInterval, refreshAge, mostBytes}
 use Rattle.model.specs.Table.{Entry, ageAt, look}
 use Rattle.model.specs.Trickle.{Event, event}
-use Rattle.model.specs.State.{State, Peer, withPeers, endpointAt, withEndpoint, withTrickle, ownEntry, ownData, publish, peerTlv, settle}
+use Rattle.model.specs.State.{State, Peer, withPeers, endpointAt, randomAt, withEndpoint, withTrickle, ownEntry, ownData, publish, peerTlv, settle}
 use Rattle.model.specs.Messages.{endpointTlv, networkTlv}
 use Rattle.model.specs.Refusals.{firstOf, late, back, noSuchEndpoint, smallRoom}
 
@@ -66,7 +66,7 @@ withEvent i s e =
 unfoldable pub ticked : ℕ → ℕ → List ℕ → State → Sent
 ticked clock i randoms s =
     let r : State = settle clock randoms (dropSilent clock i s) in
-    withEvent i r (event clock (getD randoms (pred i) 0) (endpointAt i r .trickle))
+    withEvent i r (event clock (randomAt i randoms) (endpointAt i r .trickle))
 
 -- `table` and `room` are the lengths of the lent table memory and of the room for what is sent
 abbrev pub refusalTick : ℕ → ℕ → ℕ → ℕ → State → ℕ

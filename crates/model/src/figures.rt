@@ -1,10 +1,13 @@
 // Every figure of document 01 that code uses, once: in the order of specs/Figures.antt and by its names.
 
-// Nodes with our own, and bytes of node data each; the table memory has a slot for each.
+// Nodes with our own; bytes of node data that we accept and hold of each, and that we let our own come to by publishing more.
 pub const MOST_NODES: usize = 32;
 
 pub const DATA_LIMIT: usize = 1024;
 
+pub const PUBLISH_LIMIT: usize = DATA_LIMIT;
+
+// The table memory has a slot for each node.
 pub const TABLE_BYTES: usize = MOST_NODES * DATA_LIMIT;
 
 // Endpoints, numbered from 1 on, and peers over all of them.

@@ -22,7 +22,7 @@ use Rattle.reply.specs.declared.Sender.{Sender}
 use Rattle.reply.specs.declared.Progress.{Progress}
 
 abbrev pub contextOf : Context → ModelContext
-contextOf c = record { clock = c .clock; endpoint = c .endpoint; unicast = c .unicast; others = c .others }
+contextOf c = record { clock = c .clock; endpoint = c .endpoint; unicast = c .unicast; random = c .random; others = c .others }
 
 abbrev pub senderOf : Sender → Option ModelSender
 senderOf f = cond (f .known) (some (record { node = f .node; endpoint = f .endpoint })) none

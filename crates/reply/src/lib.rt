@@ -5,12 +5,13 @@ pub mod tell;
 use node::Endpoint;
 use reach::Reached;
 
-// What holds for every TLV of a call; `others`: a Node State about another node is in the datagram.
+// What holds for every TLV of a call; `random`: the call's random number for this endpoint; `others`: a Node State about another node is in the datagram.
 pub struct Context {
     pub own: u32,
     pub clock: u64,
     pub endpoint: u32,
     pub unicast: bool,
+    pub random: u32,
     pub others: bool,
 }
 

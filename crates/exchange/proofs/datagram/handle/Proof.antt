@@ -27,12 +27,12 @@ use Rattle.exchange.proofs.Datagrams.{contextIn, callIn, first-ready, c
 
 -- The loop's invariant: what is left, handled from here, gives the whole answer.
 abbrev Inv-loop : tie.InvT-loop
-Inv-loop s mem₀ room₀ datagram clock endpoint unicast randoms k endpoints call t₀ p₀ d₀ o₀ at₀ mem room t p d o at =
-    let c : Context = callIn s datagram clock endpoint unicast in
+Inv-loop s mem₀ room₀ datagram clock endpoint unicast randoms k numbers endpoints call t₀ p₀ d₀ o₀ at₀ mem room t p d o at =
+    let c : Context = callIn s datagram clock endpoint unicast randoms in
     Through c datagram (gather c s t₀ p₀ d₀) mem₀ room₀ at (gather c s t p d) mem room × (o .known ≡ true → o .found ≡ any (aboutOther (s .own)) (tlvs datagram))
 
 abbrev μ-loop : tie.MeasureT-loop
-μ-loop s mem₀ room₀ datagram clock endpoint unicast randoms k endpoints call t₀ p₀ d₀ o₀ at₀ mem room t p d o at = length datagram - at
+μ-loop s mem₀ room₀ datagram clock endpoint unicast randoms k numbers endpoints call t₀ p₀ d₀ o₀ at₀ mem room t p d o at = length datagram - at
 
 sub-k : tie.Need-sub-k Inv-loop μ-loop
 sub-k c = search needs
@@ -46,17 +46,25 @@ mul-local c = search needs
 array-copy-out-local : tie.Need-array-copy-out-local Inv-loop μ-loop
 array-copy-out-local c = search needs
 
+mul-random : tie.Need-mul-random Inv-loop μ-loop
+mul-random c = search needs
+
+array-read-random : tie.Need-array-read-random Inv-loop μ-loop
+array-read-random c = search needs
+
 at-start-requires : tie.Need-at-start-requires Inv-loop μ-loop
 at-start-requires c κs = search needs
 
 loop-holds : tie.Need-loop-holds Inv-loop μ-loop
 loop-holds c =
-    let s = c .before .before .before .before .before .before .before .before .args .s in
-    let c′ = callIn (c .before .before .before .before .before .before .before .before .args .s) (c .before .before .before .before .before .before .before .before .args .datagram .now) (c .before .before .before .before .before .before .before .before .args .clock) (c .before .before .before .before .before .before .before .before .args .endpoint) (c .before .before .before .before .before .before .before .before .args .unicast) in (
-      through-start c′ (c .before .before .before .before .before .before .before .before .args .datagram .now) _ (c .before .before .before .before .before .before .before .before .args .mem .now) (c .before .before .before .before .before .before .before .before .args .room .now)
+    let e = c .before .before .before .before .before .before .before .before in
+    let a = e .args in
+    let s = a .s in
+    let c′ = callIn (a .s) (a .datagram .now) (a .clock) (a .endpoint) (a .unicast) (a .randoms) in (
+      through-start c′ (a .datagram .now) _ (a .mem .now) (a .room .now)
           (rw (c .at-start .ensures .1)
-          (first-ready s (c .before .before .before .before .before .before .before .before .args .mem .now) (c .before .before .before .before .before .before .before .before .args .room .now) (c .before .before .before .before .before .before .before .before .args .clock) (c .before .before .before .before .before .before .before .before .args .endpoint) (c .before .before .before .before .before .before .before .before .args .unicast) (c′ .others) _ _ (set-getD (s .endpoints) (c .before .before .before .before .before .before .before .before .args .endpoint - 1) _) (c .before .before .before .before .before .before .before .before .pre .0) (c .before .before .before .before .before .before .before .before .pre .1 .0) (c .before .before .before .before .before .before .before .before .pre .1 .1 .0) (c .before .before .before .before .before .before .before .before .pre .1 .1 .1 .0) (c .before .before .before .before .before .before .before .before .pre .1 .1 .1 .1 .0) (c .before .before .before .before .before .before .before .before .pre .1 .1 .1 .1 .1 .0)))
-          (c .before .before .before .before .before .before .before .before .pre .1 .1 .1 .1 .1 .1 .0),
+          (first-ready s (a .mem .now) (a .room .now) (a .clock) (a .endpoint) (a .unicast) (a .randoms) (c′ .others) _ _ (set-getD (s .endpoints) (a .endpoint - 1) _) (e .pre .0) (e .pre .1 .0) (e .pre .1 .1 .0) (e .pre .1 .1 .1 .0) (e .pre .1 .1 .1 .1 .0) (e .pre .1 .1 .1 .1 .1 .0)))
+          (e .pre .1 .1 .1 .1 .1 .1 .0),
       λ e. no-way false e refl,
     )
 
@@ -71,13 +79,14 @@ loop-less c = omega (arith, c .before .before .tlv-at .ensures .onward, c .befor
 
 loop-again : tie.Need-loop-again Inv-loop μ-loop
 loop-again c =
-    let c′ = callIn (c .before .before .before .before .before .before .before .before .before .before .before .before .before .args .s) (c .before .before .before .before .before .before .before .before .before .before .before .before .before .args .datagram .now) (c .before .before .before .before .before .before .before .before .before .before .before .before .before .args .clock) (c .before .before .before .before .before .before .before .before .before .before .before .before .before .args .endpoint) (c .before .before .before .before .before .before .before .before .before .before .before .before .before .args .unicast) in
+    let a = c .before .before .before .before .before .before .before .before .before .before .before .before .before .args in
+    let c′ = callIn (a .s) (a .datagram .now) (a .clock) (a .endpoint) (a .unicast) (a .randoms) in
     let l = c .before .before .before .before .loop in
     let h = c .before .before .tlv-at in
-    let w = gather c′ (c .before .before .before .before .before .before .before .before .before .before .before .before .before .args .s) (l .t) (l .p) (l .d) in
-    let z = passed-step c′ w (l .mem) (l .room) (tlvOf (c .before .before .before .before .before .before .before .before .before .before .before .before .before .args .datagram .now) (l .at) (h .result)) (l .inv .0 .ready) (h .result .kind) (sym (h .ensures .kind)) (sym (c .before .is-idle .ensures) ∙ c .if1 .taken) in (
-      through-on c′ (c .before .before .before .before .before .before .before .before .before .before .before .before .before .args .datagram .now) _ (c .before .before .before .before .before .before .before .before .before .before .before .before .before .args .mem .now) (c .before .before .before .before .before .before .before .before .before .before .before .before .before .args .room .now) (l .at) w (l .mem) (l .room) (l .inv .0) (h .result) (h .ensures)
-          (bytes-known (c .before .before .before .before .before .before .before .before .before .before .before .before .before .args .datagram .now) (λ i. c .before .before .before .before .before .before .before .before .before .before .shared-slice-known .given i .fits)) (c .before .before .before .before .before .before .before .before .before .before .before .before .before .pre .1 .1 .1 .1 .1 .1 .1) (rw (c .before .before .before .before .before .at-start .ensures .1) refl) (rw (c .before .before .before .before .before .at-start .ensures .1) refl) w (l .mem) (l .room) z,
+    let w = gather c′ (a .s) (l .t) (l .p) (l .d) in
+    let z = passed-step c′ w (l .mem) (l .room) (tlvOf (a .datagram .now) (l .at) (h .result)) (l .inv .0 .ready) (h .result .kind) (sym (h .ensures .kind)) (sym (c .before .is-idle .ensures) ∙ c .if1 .taken) in (
+      through-on c′ (a .datagram .now) _ (a .mem .now) (a .room .now) (l .at) w (l .mem) (l .room) (l .inv .0) (h .result) (h .ensures)
+          (bytes-known (a .datagram .now) (λ i. c .before .before .before .before .before .before .before .before .before .before .shared-slice-known .given i .fits)) (c .before .before .before .before .before .before .before .before .before .before .before .before .before .pre .1 .1 .1 .1 .1 .1 .1) (rw (c .before .before .before .before .before .at-start .ensures .1) refl) (rw (c .before .before .before .before .before .at-start .ensures .1) refl) w (l .mem) (l .room) z,
       l .inv .1,
     )
 
@@ -132,13 +141,14 @@ loop-less-2 c = omega (arith, c .before .before .before .before .before .before 
 
 loop-again-2 : tie.Need-loop-again-2 Inv-loop μ-loop
 loop-again-2 c =
+    let a = c .before .before .before .before .before .before .before .before .before .before .before .before .before .before .before .before .before .before .before .before .before .before .before .before .before .before .before .before .before .args in
     let l = c .before .before .before .before .before .before .before .before .before .before .before .before .before .before .before .before .before .before .before .before .loop in
     let h = c .before .before .before .before .before .before .before .before .before .before .before .before .before .before .before .before .before .before .tlv-at in
     let x = c .before .before .before .before .before .before .before .before .before .before .before .on-tlv .result in
-    let c″ = contextIn (c .before .before .before .before .before .before .before .before .before .before .before .before .before .before .before .before .before .before .before .before .before .before .before .before .before .before .before .before .before .args .s .own) (c .before .before .before .before .before .before .before .before .before .before .before .before .before .before .before .before .before .before .before .before .before .before .before .before .before .before .before .before .before .args .clock) (c .before .before .before .before .before .before .before .before .before .before .before .before .before .before .before .before .before .before .before .before .before .before .before .before .before .before .before .before .before .args .endpoint) (c .before .before .before .before .before .before .before .before .before .before .before .before .before .before .before .before .before .before .before .before .before .before .before .before .before .before .before .before .before .args .unicast) (c .before .before .before .before .before .before .before .before .before .before .before .before .before .before .before .looked .result .found) in (
-      carried-on (c .before .before .before .before .before .before .before .before .before .before .before .before .before .before .before .before .before .before .before .before .before .before .before .before .before .before .before .before .before .args .s) (c .before .before .before .before .before .before .before .before .before .before .before .before .before .before .before .before .before .before .before .before .before .before .before .before .before .before .before .before .before .args .datagram .now) (c .before .before .before .before .before .before .before .before .before .before .before .before .before .before .before .before .before .before .before .before .before .before .before .before .before .before .before .before .before .args .clock) (c .before .before .before .before .before .before .before .before .before .before .before .before .before .before .before .before .before .before .before .before .before .before .before .before .before .before .before .before .before .args .endpoint) (c .before .before .before .before .before .before .before .before .before .before .before .before .before .before .before .before .before .before .before .before .before .before .before .before .before .before .before .before .before .args .unicast) _ (c .before .before .before .before .before .before .before .before .before .before .before .before .before .before .before .before .before .before .before .before .before .before .before .before .before .before .before .before .before .args .mem .now) (c .before .before .before .before .before .before .before .before .before .before .before .before .before .before .before .before .before .before .before .before .before .before .before .before .before .before .before .before .before .args .room .now) (l .at) (l .t) (l .p) (l .d) (l .mem) (l .room) (l .inv .0) (h .result) (h .ensures) (c .before .before .before .before .before .before .before .before .before .before .before .before .before .before .before .looked .result .found) (c .before .before .before .before .before .before .before .before .before .before .before .before .before .before .before .looked .ensures .1)
-          (bytes-known (c .before .before .before .before .before .before .before .before .before .before .before .before .before .before .before .before .before .before .before .before .before .before .before .before .before .before .before .before .before .args .datagram .now) (λ i. c .before .before .before .before .before .before .before .before .before .before .before .before .before .before .before .before .before .before .before .before .before .before .before .before .before .before .shared-slice-known .given i .fits)) (c .before .before .before .before .before .before .before .before .before .before .before .before .before .before .before .before .before .before .before .before .before .before .before .before .before .before .before .before .before .pre .1 .1 .1 .1 .1 .1 .1) (rw (c .before .before .before .before .before .before .before .before .before .before .before .before .before .before .before .before .before .before .before .before .before .at-start .ensures .1) refl) (rw (c .before .before .before .before .before .before .before .before .before .before .before .before .before .before .before .before .before .before .before .before .before .at-start .ensures .1) refl) _
-          (h .ensures .value ∙ sym (part-is (c .before .before .before .before .before .before .before .before .before .before .before .before .before .before .before .before .before .before .before .before .before .before .before .before .before .before .before .before .before .args .datagram .now) (h .result .start) (h .result .start + h .result .len) (h .result .len) refl)) x (c .before .before .before .before .before .before .before .before .before .before .before .on-tlv .ensures)
+    let c″ = contextIn (a .s) (a .clock) (a .endpoint) (a .unicast) (a .randoms) (c .before .before .before .before .before .before .before .before .before .before .before .before .before .before .before .looked .result .found) in (
+      carried-on (a .s) (a .datagram .now) (a .clock) (a .endpoint) (a .unicast) (a .randoms) _ (a .mem .now) (a .room .now) (l .at) (l .t) (l .p) (l .d) (l .mem) (l .room) (l .inv .0) (h .result) (h .ensures) (c .before .before .before .before .before .before .before .before .before .before .before .before .before .before .before .looked .result .found) (c .before .before .before .before .before .before .before .before .before .before .before .before .before .before .before .looked .ensures .1)
+          (bytes-known (a .datagram .now) (λ i. c .before .before .before .before .before .before .before .before .before .before .before .before .before .before .before .before .before .before .before .before .before .before .before .before .before .before .shared-slice-known .given i .fits)) (c .before .before .before .before .before .before .before .before .before .before .before .before .before .before .before .before .before .before .before .before .before .before .before .before .before .before .before .before .before .pre .1 .1 .1 .1 .1 .1 .1) (rw (c .before .before .before .before .before .before .before .before .before .before .before .before .before .before .before .before .before .before .before .before .before .at-start .ensures .1) refl) (rw (c .before .before .before .before .before .before .before .before .before .before .before .before .before .before .before .before .before .before .before .before .before .at-start .ensures .1) refl) _
+          (h .ensures .value ∙ sym (part-is (a .datagram .now) (h .result .start) (h .result .start + h .result .len) (h .result .len) refl)) x (c .before .before .before .before .before .before .before .before .before .before .before .on-tlv .ensures)
           (c .before .before .before .before .before .before .before .answered .result) _ (c .before .before .before .before .before .before .before .answered .ensures) (c .before .before .before .if2 .t) (c .before .before .before .if2 .mem)
           (⊎-elim (λ b. rw (b .6, b .7) (b .3 .ensures)) (λ b. rw (b .1, b .2) (unaltered c″ (x .progress .sender) (x .act) (c .before .before .before .before .is-altering .result) (c .before .before .before .before .is-altering .ensures) (b .0 .left) _ (l .t) (l .mem))) (c .before .before .before .if2 .came))
           (c .met .result) (c .met .ensures .0) (c .met .ensures .1),
@@ -150,13 +160,14 @@ loop-less-3 c = omega (arith, c .before .before .before .before .before .before 
 
 loop-again-3 : tie.Need-loop-again-3 Inv-loop μ-loop
 loop-again-3 c =
+    let a = c .before .before .before .before .before .before .before .before .before .before .before .before .before .before .before .before .before .before .before .before .before .before .before .before .before .before .before .before .args in
     let l = c .before .before .before .before .before .before .before .before .before .before .before .before .before .before .before .before .before .before .before .loop in
     let h = c .before .before .before .before .before .before .before .before .before .before .before .before .before .before .before .before .before .tlv-at in
     let x = c .before .before .before .before .before .before .before .before .before .before .on-tlv .result in
-    let c″ = contextIn (c .before .before .before .before .before .before .before .before .before .before .before .before .before .before .before .before .before .before .before .before .before .before .before .before .before .before .before .before .args .s .own) (c .before .before .before .before .before .before .before .before .before .before .before .before .before .before .before .before .before .before .before .before .before .before .before .before .before .before .before .before .args .clock) (c .before .before .before .before .before .before .before .before .before .before .before .before .before .before .before .before .before .before .before .before .before .before .before .before .before .before .before .before .args .endpoint) (c .before .before .before .before .before .before .before .before .before .before .before .before .before .before .before .before .before .before .before .before .before .before .before .before .before .before .before .before .args .unicast) (c .before .before .before .before .before .before .before .before .before .before .before .before .before .before .looked .result .found) in (
-      carried-on (c .before .before .before .before .before .before .before .before .before .before .before .before .before .before .before .before .before .before .before .before .before .before .before .before .before .before .before .before .args .s) (c .before .before .before .before .before .before .before .before .before .before .before .before .before .before .before .before .before .before .before .before .before .before .before .before .before .before .before .before .args .datagram .now) (c .before .before .before .before .before .before .before .before .before .before .before .before .before .before .before .before .before .before .before .before .before .before .before .before .before .before .before .before .args .clock) (c .before .before .before .before .before .before .before .before .before .before .before .before .before .before .before .before .before .before .before .before .before .before .before .before .before .before .before .before .args .endpoint) (c .before .before .before .before .before .before .before .before .before .before .before .before .before .before .before .before .before .before .before .before .before .before .before .before .before .before .before .before .args .unicast) _ (c .before .before .before .before .before .before .before .before .before .before .before .before .before .before .before .before .before .before .before .before .before .before .before .before .before .before .before .before .args .mem .now) (c .before .before .before .before .before .before .before .before .before .before .before .before .before .before .before .before .before .before .before .before .before .before .before .before .before .before .before .before .args .room .now) (l .at) (l .t) (l .p) (l .d) (l .mem) (l .room) (l .inv .0) (h .result) (h .ensures) (c .before .before .before .before .before .before .before .before .before .before .before .before .before .before .looked .result .found) (c .before .before .before .before .before .before .before .before .before .before .before .before .before .before .looked .ensures .1)
-          (bytes-known (c .before .before .before .before .before .before .before .before .before .before .before .before .before .before .before .before .before .before .before .before .before .before .before .before .before .before .before .before .args .datagram .now) (λ i. c .before .before .before .before .before .before .before .before .before .before .before .before .before .before .before .before .before .before .before .before .before .before .before .before .before .shared-slice-known .given i .fits)) (c .before .before .before .before .before .before .before .before .before .before .before .before .before .before .before .before .before .before .before .before .before .before .before .before .before .before .before .before .pre .1 .1 .1 .1 .1 .1 .1) (rw (c .before .before .before .before .before .before .before .before .before .before .before .before .before .before .before .before .before .before .before .before .at-start .ensures .1) refl) (rw (c .before .before .before .before .before .before .before .before .before .before .before .before .before .before .before .before .before .before .before .before .at-start .ensures .1) refl) _
-          (h .ensures .value ∙ sym (part-is (c .before .before .before .before .before .before .before .before .before .before .before .before .before .before .before .before .before .before .before .before .before .before .before .before .before .before .before .before .args .datagram .now) (h .result .start) (h .result .start + h .result .len) (h .result .len) refl)) x (c .before .before .before .before .before .before .before .before .before .before .on-tlv .ensures)
+    let c″ = contextIn (a .s) (a .clock) (a .endpoint) (a .unicast) (a .randoms) (c .before .before .before .before .before .before .before .before .before .before .before .before .before .before .looked .result .found) in (
+      carried-on (a .s) (a .datagram .now) (a .clock) (a .endpoint) (a .unicast) (a .randoms) _ (a .mem .now) (a .room .now) (l .at) (l .t) (l .p) (l .d) (l .mem) (l .room) (l .inv .0) (h .result) (h .ensures) (c .before .before .before .before .before .before .before .before .before .before .before .before .before .before .looked .result .found) (c .before .before .before .before .before .before .before .before .before .before .before .before .before .before .looked .ensures .1)
+          (bytes-known (a .datagram .now) (λ i. c .before .before .before .before .before .before .before .before .before .before .before .before .before .before .before .before .before .before .before .before .before .before .before .before .before .shared-slice-known .given i .fits)) (c .before .before .before .before .before .before .before .before .before .before .before .before .before .before .before .before .before .before .before .before .before .before .before .before .before .before .before .before .pre .1 .1 .1 .1 .1 .1 .1) (rw (c .before .before .before .before .before .before .before .before .before .before .before .before .before .before .before .before .before .before .before .before .at-start .ensures .1) refl) (rw (c .before .before .before .before .before .before .before .before .before .before .before .before .before .before .before .before .before .before .before .before .at-start .ensures .1) refl) _
+          (h .ensures .value ∙ sym (part-is (a .datagram .now) (h .result .start) (h .result .start + h .result .len) (h .result .len) refl)) x (c .before .before .before .before .before .before .before .before .before .before .on-tlv .ensures)
           (c .before .before .before .before .before .before .answered .result) _ (c .before .before .before .before .before .before .answered .ensures) (c .before .before .if2 .t) (c .before .before .if2 .mem)
           (⊎-elim (λ b. rw (b .6, b .7) (b .3 .ensures)) (λ b. rw (b .1, b .2) (unaltered c″ (x .progress .sender) (x .act) (c .before .before .before .is-altering .result) (c .before .before .before .is-altering .ensures) (b .0 .left) _ (l .t) (l .mem))) (c .before .before .if2 .came))
           (l .p) (l .inv .0 .ready .sound .rep .peers) (unmet c″ (x .progress .sender) (x .act) (c .before .is-meeting .result) (c .before .is-meeting .ensures) (c .if3 .left) (peersOf (l .p))),
@@ -183,12 +194,13 @@ same-length-2 c = c .before .before .before .before .before .before .before .loo
 
 returns : tie.Need-returns Inv-loop μ-loop
 returns c =
-    let c′ = callIn (c .before .before .before .before .before .before .before .before .before .before .before .before .before .before .before .before .args .s) (c .before .before .before .before .before .before .before .before .before .before .before .before .before .before .before .before .args .datagram .now) (c .before .before .before .before .before .before .before .before .before .before .before .before .before .before .before .before .args .clock) (c .before .before .before .before .before .before .before .before .before .before .before .before .before .before .before .before .args .endpoint) (c .before .before .before .before .before .before .before .before .before .before .before .before .before .before .before .before .args .unicast) in
+    let a = c .before .before .before .before .before .before .before .before .before .before .before .before .before .before .before .before .args in
+    let c′ = callIn (a .s) (a .datagram .now) (a .clock) (a .endpoint) (a .unicast) (a .randoms) in
     let l = c .before .before .before .before .before .before .before .loop in
-    let w = gather c′ (c .before .before .before .before .before .before .before .before .before .before .before .before .before .before .before .before .args .s) (l .t) (l .p) (l .d) in
-    received (c .before .before .before .before .before .before .before .before .before .before .before .before .before .before .before .before .args .s) (c .before .before .before .before .before .before .before .before .before .before .before .before .before .before .before .before .args .mem .now) (c .before .before .before .before .before .before .before .before .before .before .before .before .before .before .before .before .args .room .now) (c .before .before .before .before .before .before .before .before .before .before .before .before .before .before .before .before .args .datagram .now) (c .before .before .before .before .before .before .before .before .before .before .before .before .before .before .before .before .args .clock) (c .before .before .before .before .before .before .before .before .before .before .before .before .before .before .before .before .args .endpoint) (c .before .before .before .before .before .before .before .before .before .before .before .before .before .before .before .before .args .unicast) (c′ .others) _ _ (set-getD (c .before .before .before .before .before .before .before .before .before .before .before .before .before .before .before .before .args .s .endpoints) (c .before .before .before .before .before .before .before .before .before .before .before .before .before .before .before .before .args .endpoint - 1) _) refl w (l .mem) (l .room)
-    (through-end c′ (c .before .before .before .before .before .before .before .before .before .before .before .before .before .before .before .before .args .datagram .now) _ (c .before .before .before .before .before .before .before .before .before .before .before .before .before .before .before .before .args .mem .now) (c .before .before .before .before .before .before .before .before .before .before .before .before .before .before .before .before .args .room .now) (l .at) w (l .mem) (l .room) (rw (c .before .before .before .before .before .before .before .before .at-start .ensures .1) at (l .inv .0)) (c .before .before .before .before .before .before .loop-test .left)) (c .before .before .before .before .before .before .before .before .before .before .before .before .before .before .before .before .args .randoms)
-    (c .before .before .before .before .refreshed .result .reached .digest) (c .before .before .before .before .refreshed .ensures .reaching .digest) (c .settled .result) (c .settled .ensures (c .before .before .before .before .before .before .before .before .before .before .before .before .before .before .before .before .args .s .last))
+    let w = gather c′ (a .s) (l .t) (l .p) (l .d) in
+    received (a .s) (a .mem .now) (a .room .now) (a .datagram .now) (a .clock) (a .endpoint) (a .unicast) (a .randoms) (c′ .others) _ _ (set-getD (a .s .endpoints) (a .endpoint - 1) _) refl w (l .mem) (l .room)
+    (through-end c′ (a .datagram .now) _ (a .mem .now) (a .room .now) (l .at) w (l .mem) (l .room) (rw (c .before .before .before .before .before .before .before .before .at-start .ensures .1) at (l .inv .0)) (c .before .before .before .before .before .before .loop-test .left))
+    (c .before .before .before .before .refreshed .result .reached .digest) (c .before .before .before .before .refreshed .ensures .reaching .digest) (c .settled .result) (c .settled .ensures (a .s .last))
 
 pub handle-spec : {M : Type 1} → statement M
 handle-spec =
@@ -198,6 +210,8 @@ handle-spec =
     μ-loop
     sub-k
     cast-k
+    mul-random
+    array-read-random
     mul-local
     array-copy-out-local
     at-start-requires
