@@ -91,9 +91,7 @@ pub open-aside : {c : Context} (x : Bool) {t : Table} {d : Progress} {m r : List
 open-aside x h =
     record {
       marks = record { kept = h .marks .kept; fits = h .marks .fits; clock = h .marks .clock; cached = h .marks .cached };
-      used = h .used;
-      room = h .room;
-      headed = h .headed;
+      writable = record { used = h .writable .used; room = h .writable .room; headed = h .writable .headed };
       omitted = h .omitted;
       dropped = h .dropped;
       first = h .first;

@@ -48,13 +48,13 @@ module _ {d x : Decision} (e : d ≡ x) where
 
 -- ---- a Peer TLV among our data
 
-module _ {c : Context} {own : ℕ} {t : Table} {m : List ℕ} (k : Joinable c own t m) {i : ℕ} (s : Stands t own i) where
+module _ {c : Context} {t : Table} {m : List ℕ} (k : Joinable c t m) {i : ℕ} (s : Stands t (c .own) i) where
   pub joined-row : isRow (dataOf m (metaAt t i)) ≡ true
   joined-row = good-row dataLimit (dataOf m (metaAt t i)) (view-each t (k .kept .arranged) (EntryFits (c .clock)) m i (k .fits .entries) (s .at) .fine)
 
   pub linked-as : (f : Sender) (q : ℕ) (tlv d : List ℕ) → d ≡ dataOf m (metaAt t i) → spliced d q tlv ≡ joinAll (place tlv (tlvs d))
       → (e : Meta) → Read t i e → (seq : ℕ) → seq ≡ advance (e .seq) 1 → tlv ≡ peerTlv (record { node = f .node; theirs = f .endpoint; ours = c .endpoint; contact = 0 })
-      → {t′ : Table} {m′ : List ℕ} → Stored (entryOf own seq (spliced (dataOf m (metaAt t i)) q tlv) (anew (c .clock))) t m i t′ m′ → Links c own f t m t′ m′
+      → {t′ : Table} {m′ : List ℕ} → Stored (entryOf (c .own) seq (spliced (dataOf m (metaAt t i)) q tlv) (anew (c .clock))) t m i t′ m′ → Links c f t m t′ m′
   unfolding withTlv
   linked-as f q tlv d z w e o seq es et {t′} {m′} g =
       let n : seq ≡ advance (metaAt t i .seq) 1 = es ∙ ap (λ (r : Meta). advance (r .seq) 1) (o .same) in
@@ -64,8 +64,8 @@ module _ {c : Context} {own : ℕ} {t : Table} {m : List ℕ} (k : Joinable c ow
       record {
         place = i;
         stands = s;
-        stored = subst (λ (x : ℕ). Stored (entryOf own x (withTlv (peerTlv (record { node = f .node; theirs = f .endpoint; ours = c .endpoint; contact = 0 })) (dataOf m (metaAt t i))) (anew (c .clock))) t m i t′ m′) n
-            (subst (λ (x : List ℕ). Stored (entryOf own seq x (anew (c .clock))) t m i t′ m′) a g);
+        stored = subst (λ (x : ℕ). Stored (entryOf (c .own) x (withTlv (peerTlv (record { node = f .node; theirs = f .endpoint; ours = c .endpoint; contact = 0 })) (dataOf m (metaAt t i))) (anew (c .clock))) t m i t′ m′) n
+            (subst (λ (x : List ℕ). Stored (entryOf (c .own) seq x (anew (c .clock))) t m i t′ m′) a g);
       }
 
 -- ---- the last contact

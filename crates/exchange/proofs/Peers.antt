@@ -95,7 +95,7 @@ same-size t m own k i j p q =
     ∙ data-length t m j k (q .at) .0
 
 -- the peer and its Peer TLV in their places
-module _ (c : Context) (b : State) (t : Table) (p : Peers) (d : Progress) (m : List ℕ) (k : Rep (gathered c b t p d) m) {t′ : Table} {m′ : List ℕ} (l : Links c (c .own) (d .sender) t m t′ m′) where
+module _ (c : Context) (b : State) (t : Table) (p : Peers) (d : Progress) (m : List ℕ) (k : Rep (gathered c b t p d) m) {t′ : Table} {m′ : List ℕ} (l : Links c (d .sender) t m t′ m′) where
   abbrev tlvIn : List ℕ
   tlvIn = peerTlv (record { node = d .sender .node; theirs = d .sender .endpoint; ours = c .endpoint; contact = 0 })
 
@@ -210,9 +210,7 @@ noted-open : {c : Context} {t : Table} {d : Progress} {m : List ℕ} (f : Sender
 noted-open f r o =
     record {
       marks = noted-marks f (o .marks);
-      used = o .used;
-      room = o .room;
-      headed = o .headed;
+      writable = record { used = o .writable .used; room = o .writable .room; headed = o .writable .headed };
       omitted = o .omitted;
       dropped = o .dropped;
       first = o .first;

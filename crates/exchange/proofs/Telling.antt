@@ -27,7 +27,7 @@ use Rattle.reply.specs.View.{contextOf, Work, gather, workOf, Sound, Stepped, R
 use Rattle.reply.proofs.Steps.{work-state, work-known, work-unknown, putState, gathered, stepped-to, stepped-more, stepped-then, stepped-last, stepped-kept, refreshed-stepped, refreshed-open}
 use Rattle.exchange.specs.declared.Step.{Step}
 use Rattle.exchange.specs.declared.Act.{Act}
-use Rattle.exchange.specs.Told.{stillAt, Answered, TableAfter, greets, touches, newcomer, greetedIn, touchedIn, Greeted, Passes, Told}
+use Rattle.exchange.specs.Told.{stillAt, Answered, TableAfter, greets, agrees, newcomer, greetedIn, touchedIn, Greeted, Passes, Told}
 use Rattle.exchange.proofs.Touching.{touch-twice}
 use Rattle.exchange.proofs.Carrying.{answered-sender}
 
@@ -65,7 +65,7 @@ module _ {c : Context} {k : ℕ} {f : ModelWork → ModelWork} (v : List ℕ) {t
           alters = s .alters;
           few = s .few;
           is = λ i b t′ q u m′ r r′ h o a z.
-              let y : Passes c k f (touches (x .act)) (gather c b t p d) m r (gather c b t′ q u) m′ r′ = s .is i b t′ q u m′ r r′ h o a z in
+              let y : Passes c k f (agrees (x .act)) (gather c b t p d) m r (gather c b t′ q u) m′ r′ = s .is i b t′ q u m′ r r′ h o a z in
               record { stepped = stepped-more (y .stepped) n l; is = sym (e b r h) ∙ y .is };
         }
 
@@ -81,7 +81,7 @@ module _ {c : Context} {k : ℕ} {f : ModelWork → ModelWork} (v : List ℕ) {t
           few = s .few;
           is = λ i b t′ q w m′ r r′ h l a z.
               let o : Stepped c 0 g (gather c b t p u) m r (gather c b t p d) m r = n b r h in
-              let y : Passes c k f (touches (x .act)) (gather c b t p d) m r (gather c b t′ q w) m′ r′ = s .is i b t′ q w m′ r r′ (o .sound) l a z in
+              let y : Passes c k f (agrees (x .act)) (gather c b t p d) m r (gather c b t′ q w) m′ r′ = s .is i b t′ q w m′ r r′ (o .sound) l a z in
               record { stepped = stepped-more (stepped-then o (y .stepped)) k (omega arith); is = ap f (sym (o .is)) ∙ y .is };
         }
 
@@ -171,10 +171,10 @@ module _ {c : Context} {kind : ℕ} {v : List ℕ} {t : Table} {p : Peers} {d : 
       let w : u .sender ≡ x .progress .sender = answered-sender c (x .act) t (x .progress) m r u r′ l in
       let g = greeted-list c (x .progress .sender) (x .act) p (greets (x .act)) refl (h .rep .peers) (s .few) in
       let q : Peers = g .0 in
-      let n : Passes c 33 (onTlv (contextOf c) kind v) (touches (x .act)) (gather c b t p d) m r (gather c b t′ q u) m′ r′ = s .is i b t′ q u m′ r r′ h l a (g .1 .0) in
-      let o : Stepped c 0 (λ j. cond (c .unicast || touches (x .act)) (touch (contextOf c) j) j) (gather c b t′ q u) m′ r′ (gather c b t′ p′ u) m′ r′ =
-      last-contact c b t′ q u m′ r′ (n .stepped .sound) p′ k (u .sender .known) (c .unicast || touches (x .act)) refl
+      let n : Passes c 33 (onTlv (contextOf c) kind v) (agrees (x .act)) (gather c b t p d) m r (gather c b t′ q u) m′ r′ = s .is i b t′ q u m′ r r′ h l a (g .1 .0) in
+      let o : Stepped c 0 (λ j. cond (c .unicast || agrees (x .act)) (touch (contextOf c) j) j) (gather c b t′ q u) m′ r′ (gather c b t′ p′ u) m′ r′ =
+      last-contact c b t′ q u m′ r′ (n .stepped .sound) p′ k (u .sender .known) (c .unicast || agrees (x .act)) refl
       (rw w (y ∙ ap (touchedIn c (x .progress .sender) (x .act)) (sym (g .1 .1 .1)))) in
       stepped-to (stepped-more (stepped-last (n .stepped) o refl) 33 (omega arith)) (oneTlv (contextOf c) tlv)
-      (one-touch (contextOf c) (workOf (gather c b t′ q u) m′ r′) (touches (x .act)) (c .unicast)
+      (one-touch (contextOf c) (workOf (gather c b t′ q u) m′ r′) (agrees (x .act)) (c .unicast)
       ∙ ap (λ (j : ModelWork). cond (c .unicast) (touch (contextOf c) j) j) (sym (n .is)) ∙ sym one-is)

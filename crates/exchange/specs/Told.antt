@@ -4,7 +4,7 @@ use mathlib.Core.Bool.{Bool, true, false, cond, _&&_, _||_}
 use mathlib.Core.List.{List, [], _∷_, _++_, map}
 use Prim.Native.Nat.{ℕ, _+_, _≤_, _<_}
 use lib.ListN.{drop}
-use Rattle.model.specs.Figures.{mostPeers, publishLimit, peerBytes}
+use Rattle.model.specs.Figures.{mostEndpoints, mostPeers, publishLimit, peerBytes}
 use Rattle.model.specs.Sequence.{advance}
 use Rattle.model.specs.Trickle.{hear}
 use Rattle.model.specs.Table.{entryOf, stamp, anew}
@@ -95,18 +95,18 @@ TakenBy clock v (TakeAll place held node seq age) t m t′ m′ = Stored (entryO
 TakenBy clock v Dropped t m t′ m′ = (t′ ≡ t) × (m′ ≡ m)
 
 -- our own data can take a Peer TLV more
-pub record Joinable (c : Context) (own : ℕ) (t : Table) (m : List ℕ) : Type 0 where
+pub record Joinable (c : Context) (t : Table) (m : List ℕ) : Type 0 where
   pub kept : Kept t m
-  pub fits : TableFits own (c .clock) (view t m)
-  pub short : (i : ℕ) → Stands t own i → metaAt t i .len + peerBytes ≤ publishLimit
+  pub fits : TableFits (c .own) (c .clock) (view t m)
+  pub short : (i : ℕ) → Stands t (c .own) i → metaAt t i .len + peerBytes ≤ publishLimit
 
 -- they have the sender's, under the next number
-pub record Links (c : Context) (own : ℕ) (f : Sender) (t : Table) (m : List ℕ) (t′ : Table) (m′ : List ℕ) : Type 0 where
+pub record Links (c : Context) (f : Sender) (t : Table) (m : List ℕ) (t′ : Table) (m′ : List ℕ) : Type 0 where
   pub place : ℕ
-  pub stands : Stands t own place
+  pub stands : Stands t (c .own) place
   pub stored :
       Stored
-      (entryOf own (advance (metaAt t place .seq) 1)
+      (entryOf (c .own) (advance (metaAt t place .seq) 1)
       (withTlv (peerTlv (record { node = f .node; theirs = f .endpoint; ours = c .endpoint; contact = 0 })) (dataOf m (metaAt t place))) (anew (c .clock)))
       t m place t′ m′
 
@@ -115,7 +115,7 @@ abbrev pub TableAfter : Context → List ℕ → Sender → Act → Table → Li
 TableAfter c v f TellNetwork t m t′ m′ = (t′ ≡ t) × (m′ ≡ m)
 TableAfter c v f (TellNode place) t m t′ m′ = (t′ ≡ t) × (m′ ≡ m)
 TableAfter c v f AskNetwork t m t′ m′ = (t′ ≡ t) × (m′ ≡ m)
-TableAfter c v f Greet t m t′ m′ = Links c (c .own) f t m t′ m′
+TableAfter c v f Greet t m t′ m′ = Links c f t m t′ m′
 TableAfter c v f Equal t m t′ m′ = (t′ ≡ t) × (m′ ≡ m)
 TableAfter c v f (Decided x) t m t′ m′ = TakenBy (c .clock) v x t m t′ m′
 
@@ -124,7 +124,7 @@ abbrev pub Alterable : Context → List ℕ → Act → Table → List ℕ → T
 Alterable c v TellNetwork t m = Unit {0}
 Alterable c v (TellNode place) t m = Unit {0}
 Alterable c v AskNetwork t m = Unit {0}
-Alterable c v Greet t m = Joinable c (c .own) t m
+Alterable c v Greet t m = Joinable c t m
 Alterable c v Equal t m = Unit {0}
 Alterable c v (Decided x) t m = Acts t x × Taken t v x
 
@@ -138,18 +138,18 @@ greets Greet = true
 greets Equal = false
 greets (Decided x) = false
 
--- the sender is in contact by what the TLV says
-abbrev pub touches : Act → Bool
-touches TellNetwork = false
-touches (TellNode place) = false
-touches AskNetwork = false
-touches Greet = false
-touches Equal = true
-touches (Decided x) = false
+-- the digest received is ours: the sender is in contact
+abbrev pub agrees : Act → Bool
+agrees TellNetwork = false
+agrees (TellNode place) = false
+agrees AskNetwork = false
+agrees Greet = false
+agrees Equal = true
+agrees (Decided x) = false
 
--- or as any TLV by unicast says it
+-- as it is by any TLV over unicast
 abbrev pub touching : Bool → Sender → Act → Bool
-touching unicast f x = f .known && (unicast || touches x)
+touching unicast f x = f .known && (unicast || agrees x)
 
 abbrev pub meets : Bool → Sender → Act → Bool
 meets unicast f x = greets x || touching unicast f x
@@ -184,6 +184,6 @@ pub record Told (c : Context) (k : ℕ) (f : ModelWork → ModelWork) (v : List 
   pub answers : Answerable t (x .progress) (x .act)
   pub alters : Alterable c v (x .act) t m
   pub few : greets (x .act) ≡ true → p .count < mostPeers
-  pub is : (1 ≤ c .endpoint) × (c .endpoint ≤ 4) → (b : State) (t′ : Table) (q : Peers) (u : Progress) (m′ r r′ : List ℕ) → Sound (c .clock) (gather c b t p d) m r → Answered c (x .act) t (x .progress) m r u r′
+  pub is : (1 ≤ c .endpoint) × (c .endpoint ≤ mostEndpoints) → (b : State) (t′ : Table) (q : Peers) (u : Progress) (m′ r r′ : List ℕ) → Sound (c .clock) (gather c b t p d) m r → Answered c (x .act) t (x .progress) m r u r′
       → TableAfter c v (x .progress .sender) (x .act) t m t′ m′ → Greeted c (x .progress .sender) (x .act) p q
-      → Passes c k f (touches (x .act)) (gather c b t p d) m r (gather c b t′ q u) m′ r′
+      → Passes c k f (agrees (x .act)) (gather c b t p d) m r (gather c b t′ q u) m′ r′

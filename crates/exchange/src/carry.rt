@@ -24,18 +24,17 @@ use table::renumber;
 use table::replace;
 use wire::order::place_of;
 ghost use mathlib.Core.Path.{_≡_};
-ghost use mathlib.Core.Bool.{true, not};
+ghost use mathlib.Core.Bool.{true};
 ghost use Prim.Native.Nat.{_≤_, _<_};
-ghost use lib.Dec.{eqb};
 ghost use lib.ListN.{length, take, drop};
-ghost use Rattle.model.specs.Figures.{mostBytes, mostPeers};
+ghost use Rattle.model.specs.Figures.{mostPeers};
 ghost use Rattle.node.specs.View.{peersOf, PeersRep};
 ghost use Rattle.model.specs.Table.{entryOf, stamp};
 ghost use Rattle.table.specs.View.{Kept, Stored};
 ghost use Rattle.reply.specs.Updates.{stale};
-ghost use Rattle.reply.specs.View.{Open};
+ghost use Rattle.reply.specs.View.{mostCounted, Writable, Open};
 ghost use Rattle.decide.specs.Decided.{Acts, Fine, HasRoom, Placed, Taken};
-ghost use Rattle.exchange.specs.Told.{Counts, Notes, Answered, Answerable, takes, alters, Joinable, Links, TakenBy, TableAfter, Alterable, greets, touches, touching, meets, greetedIn, touchedIn};
+ghost use Rattle.exchange.specs.Told.{Counts, Notes, Answered, Answerable, takes, alters, Joinable, Links, TakenBy, TableAfter, Alterable, greets, agrees, touching, meets, greetedIn, touchedIn};
 
 // The 16 bytes of the digest in a Node State's value.
 fn hash_in(value: &[u8]) -> [u8; 16]
@@ -90,7 +89,7 @@ fn counted(d: Progress, c: Context) -> Progress
 
 // The progress once it is decided: a request, one dropped more, or marks and digest to be worked out anew.
 fn noted(d: Progress, mem: &[u8], room: &mut [u8], c: Context, decision: Decision) -> Progress
-    requires { ⌜ (d .used ≤ mostBytes) × ((mostBytes ≤ length (now room)) × ((d .headed ≡ not (eqb (d .used) 0)) × ((d .omitted ≤ 1000000) × (d .dropped ≤ 1000000)))) ⌝ }
+    requires { ⌜ Writable d (now room) × ((d .omitted ≤ mostCounted) × (d .dropped ≤ mostCounted)) ⌝ }
     ensures { λ v. ⌜ Notes c decision d (now (room .entry)) v (now (room .exit)) ⌝ }
 {
     match decision {
@@ -228,8 +227,8 @@ fn taken(t: Table, mem: &mut [u8], clock: u64, value: &[u8], decision: Decision)
 
 // The table with the Peer TLV of the sender among our own data.
 fn linked(t: Table, mem: &mut [u8], c: Context, f: Sender) -> Table
-    requires { ⌜ Joinable c (c .own) t (now mem) ⌝ }
-    ensures { λ r. ⌜ Links c (c .own) f t (now (mem .entry)) r (now (mem .exit)) ⌝ }
+    requires { ⌜ Joinable c t (now mem) ⌝ }
+    ensures { λ r. ⌜ Links c f t (now (mem .entry)) r (now (mem .exit)) ⌝ }
 {
     let i = own_place(t, mem, c.own);
     let e = meta_at(t, i);
@@ -269,9 +268,9 @@ fn is_greeting(act: Act) -> bool
     }
 }
 
-// The sender is in contact by what the TLV says.
-fn is_telling(act: Act) -> bool
-    ensures { λ r. ⌜ r ≡ touches act ⌝ }
+// The digest received is ours: the sender is in contact.
+fn is_agreeing(act: Act) -> bool
+    ensures { λ r. ⌜ r ≡ agrees act ⌝ }
 {
     match act {
         Act::TellNetwork => false,
@@ -283,7 +282,7 @@ fn is_telling(act: Act) -> bool
     }
 }
 
-// The sender's last contact is set: by what the TLV says, or by any TLV over unicast.
+// The sender's last contact is set: by an equal digest, or by any TLV over unicast.
 fn is_touching(f: Sender, unicast: bool, act: Act) -> bool
     ensures { λ r. ⌜ r ≡ touching unicast f act ⌝ }
 {
@@ -293,7 +292,7 @@ fn is_touching(f: Sender, unicast: bool, act: Act) -> bool
     if unicast {
         return true;
     }
-    is_telling(act)
+    is_agreeing(act)
 }
 
 // The peers change.

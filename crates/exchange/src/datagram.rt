@@ -8,6 +8,8 @@ use crate::marks::refreshed;
 use crate::tlv::is_idle;
 use crate::tlv::on_tlv;
 use base::big_endian::read_u32;
+use model::figures::MOST_ENDPOINTS;
+use model::figures::MOST_NODES;
 use node::Endpoint;
 use node::State;
 use node::answers::Answer;
@@ -25,7 +27,7 @@ ghost use lib.ListN.{length};
 ghost use Rattle.base.specs.Lists.{any};
 ghost use Rattle.wire.specs.Row.{isRow, tlvs};
 ghost use Rattle.wire.specs.Answers.{tlvOf, Tells};
-ghost use Rattle.model.specs.Figures.{mostBytes, lastReading};
+ghost use Rattle.model.specs.Figures.{mostEndpoints, mostBytes, lastReading};
 ghost use Rattle.model.specs.Receive.{aboutOther};
 ghost use Rattle.model.specs.Invariant.{Midway};
 ghost use Rattle.node.specs.View.{stateOf, Rep};
@@ -103,7 +105,7 @@ fn at_start(local: Endpoint) -> Progress
         dropped: 0,
         fresh: false,
         reached: Reached {
-            marks: [false; 32],
+            marks: [false; MOST_NODES],
             digest: [0; 16],
         },
     }
@@ -118,9 +120,9 @@ pub fn handle(
     clock: u64,
     endpoint: u32,
     unicast: bool,
-    randoms: [u32; 4],
+    randoms: [u32; MOST_ENDPOINTS],
 ) -> Answer
-    requires { ⌜ Rep s (now mem) × (Midway clock (stateOf s (now mem)) × ((clock ≤ lastReading) × ((1 ≤ endpoint) × ((endpoint ≤ 4) × ((mostBytes ≤ length (now room)) × ((isRow (now datagram) ≡ true) × (length (now datagram) ≤ mostBytes))))))) ⌝ }
+    requires { ⌜ Rep s (now mem) × (Midway clock (stateOf s (now mem)) × ((clock ≤ lastReading) × ((1 ≤ endpoint) × ((endpoint ≤ mostEndpoints) × ((mostBytes ≤ length (now room)) × ((isRow (now datagram) ≡ true) × (length (now datagram) ≤ mostBytes))))))) ⌝ }
     ensures { λ r. ⌜ Handled s (now (mem .entry)) (now (room .entry)) (now (datagram .entry)) clock endpoint unicast randoms r (now (mem .exit)) (now (room .exit)) ⌝ }
 {
     let k = (endpoint - 1) as usize;

@@ -5,7 +5,7 @@ use mathlib.Core.List.{List, _++_}
 use mathlib.Core.Option.{some}
 use Prim.Native.Nat.{ℕ, _+_, _-_, _*_, _≤_}
 use lib.ListN.{length, take, drop, replicate}
-use Rattle.model.specs.Figures.{mostNodes, dataLimit, tableBytes}
+use Rattle.model.specs.Figures.{mostNodes, mostEndpoints, dataLimit, tableBytes}
 use Rattle.wire.specs.Payment.{Payment}
 use Rattle.model.specs.Table.{Entry}
 use Rattle.model.specs.Begin.{Done as ModelDone, blank, begin}
@@ -33,7 +33,7 @@ use Rattle.ledger.specs.declared.answers.Extent.{Extent}
 pub record AsLeft (s : State) (m : List ℕ) : Type 0 where
   pub arranged : Arranged (s .table)
   pub peers : PeersRep (s .peers)
-  pub four : length (s .endpoints) ≡ 4
+  pub four : length (s .endpoints) ≡ mostEndpoints
   pub digest : length (s .digest) ≡ 16
   pub hashed : tableBytes ≤ length m → Hashed m (live (s .table))
   pub valid : tableBytes ≤ length m → Valid (stateOf s m)

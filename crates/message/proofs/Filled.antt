@@ -1,6 +1,6 @@
 -- A TLV written piece by piece: to a place of the memory, and into a buffer of zeros that it fills. Assumes nothing.
 use mathlib.Core.Path.{_≡_, refl, _∙_}
-use mathlib.Core.List.{List, _++_, append-nil}
+use mathlib.Core.List.{List, [], _∷_, _++_, append-nil}
 use Prim.Native.Nat.{ℕ, _+_, _≤_}
 use native.Mathlib.Omega.{arith}
 use lib.ListN.{length}
@@ -9,7 +9,7 @@ use Rattle.base.specs.Memory.{written}
 use Rattle.base.proofs.Written.{written-three, written-more}
 use Rattle.wire.specs.Row.{encode}
 use Rattle.model.specs.State.{Peer, peerTlv}
-use Rattle.model.specs.Messages.{endpointTlv, networkTlv, requestNodeTlv}
+use Rattle.model.specs.Messages.{endpointTlv, networkTlv, requestNetworkTlv, requestNodeTlv}
 
 -- our Node Endpoint TLV, at a place
 pub endpoint-filled : (d d1 d2 d3 d4 : List ℕ) (at own endpoint : ℕ) → at + 12 ≤ length d
@@ -28,6 +28,10 @@ pub network-filled : (d1 d2 d3 digest : List ℕ) → length digest ≡ 16
     → d3 ≡ networkTlv digest
 unfolding encode
 network-filled d1 d2 d3 digest h e1 e2 e3 = e3 ∙ rw (e2, e1, h)
+
+pub request-network-bytes : _≡_ {A = List ℕ} (0 ∷ 1 ∷ 0 ∷ 0 ∷ []) requestNetworkTlv
+unfolding encode
+request-network-bytes = refl
 
 pub request-node-filled : (d1 d2 d3 : List ℕ) (node : ℕ)
     → d1 ≡ written (noughts 8) 0 (big16 2) → d2 ≡ written d1 2 (big16 4) → d3 ≡ written d2 4 (big32 node)

@@ -11,7 +11,7 @@ ghost use Rattle.base.specs.Bytes.{big16, big32};
 ghost use Rattle.base.specs.Memory.{written};
 ghost use Rattle.model.specs.Figures.{dataLimit};
 ghost use Rattle.model.specs.State.{peerTlv};
-ghost use Rattle.model.specs.Messages.{endpointTlv, networkTlv, requestNodeTlv};
+ghost use Rattle.model.specs.Messages.{endpointTlv, networkTlv, requestNetworkTlv, requestNodeTlv};
 
 // Our Node Endpoint TLV to place `at`.
 pub fn put_endpoint(room: &mut [u8], at: usize, own: u32, endpoint: u32)
@@ -34,6 +34,13 @@ pub fn network_tlv(digest: [u8; 16]) -> [u8; 20]
     put_u16(&mut d, 2, 16);
     store(&mut d, 4, &digest);
     d
+}
+
+// The Request Network State TLV.
+pub fn request_network_tlv() -> [u8; 4]
+    ensures { λ r. ⌜ r ≡ requestNetworkTlv ⌝ }
+{
+    [0, 1, 0, 0]
 }
 
 // The Request Node State TLV.

@@ -5,7 +5,7 @@ use mathlib.Core.List.{List, map}
 use Prim.Native.Nat.{ℕ, _≤_}
 use lib.ListN.{length, take, drop}
 use Rattle.base.specs.Lists.{isSome}
-use Rattle.model.specs.Figures.{mostPeers, tableBytes}
+use Rattle.model.specs.Figures.{mostEndpoints, mostPeers, tableBytes}
 use Rattle.model.specs.Table.{look}
 use Rattle.model.specs.Digest.{networkDigest}
 use Rattle.model.specs.State.{settle, State as ModelState, Peer as ModelPeer, Endpoint as ModelEndpoint}
@@ -49,7 +49,7 @@ pub record PeersRep (p : Peers) : Type 0 where
 pub record Rep (s : State) (m : List ℕ) : Type 0 where
   pub table : Kept (s .table) m
   pub peers : PeersRep (s .peers)
-  pub four : length (s .endpoints) ≡ 4
+  pub four : length (s .endpoints) ≡ mostEndpoints
   pub digest : length (s .digest) ≡ 16
 
 -- our own node stands in the table

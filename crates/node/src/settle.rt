@@ -11,6 +11,7 @@ ghost use mathlib.Core.Bool.{cond};
 ghost use Prim.Native.Nat.{ℕ};
 ghost use lib.ListN.{length};
 ghost use Rattle.base.specs.Bytes.{same};
+ghost use Rattle.model.specs.Figures.{mostEndpoints};
 ghost use Rattle.model.specs.Trickle.{reset};
 ghost use Rattle.model.specs.State.{withTrickle, resetAll};
 ghost use Rattle.node.specs.View.{endpointOf, endpointsOf, Settled};
@@ -31,7 +32,7 @@ fn reset_all(
     clock: u64,
     randoms: [u32; MOST_ENDPOINTS],
 ) -> [Endpoint; MOST_ENDPOINTS]
-    ensures { λ r. ⌜ (length r ≡ 4) × (endpointsOf r ≡ resetAll clock randoms (endpointsOf es)) ⌝ }
+    ensures { λ r. ⌜ (length r ≡ mostEndpoints) × (endpointsOf r ≡ resetAll clock randoms (endpointsOf es)) ⌝ }
 {
     [
         reset_one(es[0], clock, randoms[0]),
@@ -49,7 +50,7 @@ fn renewed(
     clock: u64,
     randoms: [u32; MOST_ENDPOINTS],
 ) -> [Endpoint; MOST_ENDPOINTS]
-    ensures { λ r. ⌜ (length r ≡ 4) × (endpointsOf r ≡ cond (same old digest) (endpointsOf es) (resetAll clock randoms (endpointsOf es))) ⌝ }
+    ensures { λ r. ⌜ (length r ≡ mostEndpoints) × (endpointsOf r ≡ cond (same old digest) (endpointsOf es) (resetAll clock randoms (endpointsOf es))) ⌝ }
 {
     if is_same(&old, &digest) {
         return es;

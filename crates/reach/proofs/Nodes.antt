@@ -10,7 +10,7 @@ use borrow.Author.Tests.{lt-ltb, le-ltb}
 use Rattle.wire.specs.Row.{isRow}
 use Rattle.wire.specs.Order.{good}
 use Rattle.wire.proofs.Good.{good-row}
-use Rattle.model.specs.Figures.{mostNodes, dataLimit, tableBytes, ageLimit, mostAge, lastReading}
+use Rattle.model.specs.Figures.{mostNodes, dataLimit, tableBytes, ageLimit, lastReading}
 use Rattle.model.specs.Table.{Entry, Statement, underAge}
 use Rattle.model.specs.Reach.{Vertex, vertices, joined}
 use Rattle.model.specs.Invariant.{EntryFits, TableFits}
@@ -88,8 +88,8 @@ module _ (clock : ℕ) (t : Table) (m : List ℕ) (g : Readable clock t m) where
         record { fit = (f .low, f .short); room = g .kept .room; entry = view-each t (g .kept .arranged) (EntryFits clock) m i (g .entries) p; reading = g .reading }
 
     -- its numbers are in range, also once it was read
-    pub age-fits : (e : Meta) → Read t i e → (e .since ≤ clock) × ((e .age ≤ mostAge) × (clock ≤ lastReading))
-    age-fits e o = rw (o .same) (legible-at .entry .since, (legible-at .entry .age, g .reading))
+    pub age-fits : (e : Meta) → Read t i e → (e .since ≤ clock) × (clock ≤ lastReading)
+    age-fits e o = rw (o .same) (legible-at .entry .since, g .reading)
 
     -- its data is a row
     pub data-row : (x : List ℕ) → x ≡ dataOf m (metaAt t i) → isRow x ≡ true

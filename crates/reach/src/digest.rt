@@ -17,6 +17,11 @@ ghost use Rattle.model.specs.Table.{statements};
 ghost use Rattle.model.specs.Digest.{digestOf};
 ghost use Rattle.table.specs.View.{view, Arranged, Kept};
 
+// Bytes of one node's part, and of all parts.
+const PART: usize = 20;
+
+const PARTS: usize = MOST_NODES * PART;
+
 // Number and digest of one node to place `at`.
 fn put_part(d: &mut [u8], at: usize, e: Entry)
     requires { ⌜ (at + 20 ≤ length (now d)) × (length (e .hash) ≡ 16) ⌝ }
@@ -33,13 +38,13 @@ pub fn network_digest(t: Table, marks: [bool; MOST_NODES]) -> [u8; 16]
     ensures { λ r. ⌜ ((m : List ℕ) → Kept t m → r ≡ digestOf (statements (keepBy marks (view t m)))) ⌝ }
 {
     let count = t.count;
-    let mut d = [0u8; 640];
+    let mut d = [0u8; PARTS];
     let mut n = 0;
     let mut i = 0;
     while i < count {
         if marks[i] {
             put_part(&mut d, n, meta_at(t, i));
-            n += 20;
+            n += PART;
         }
         i += 1;
     }

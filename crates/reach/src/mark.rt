@@ -13,6 +13,7 @@ ghost use mathlib.Core.Bool.{true, false, not, _||_};
 ghost use Prim.Native.Nat.{ℕ, _<_};
 ghost use lib.ListN.{getD};
 ghost use Rattle.base.specs.Lists.{any, isSome};
+ghost use Rattle.model.specs.Figures.{mostNodes};
 ghost use Rattle.model.specs.Table.{look};
 ghost use Rattle.table.specs.View.{seen, view};
 ghost use Rattle.reach.specs.Marks.{Readable, Legible, Wide, leads, NextLevel, Levelled, Onward, Spread};
@@ -77,7 +78,7 @@ fn is_empty(marks: [bool; MOST_NODES]) -> bool
 
 // The marks of either.
 fn either(x: [bool; MOST_NODES], y: [bool; MOST_NODES]) -> [bool; MOST_NODES]
-    ensures { λ r. ⌜ Wide r × ((i : ℕ) → i < 32 → getD r i false ≡ getD x i false || getD y i false) ⌝ }
+    ensures { λ r. ⌜ Wide r × ((i : ℕ) → i < mostNodes → getD r i false ≡ getD x i false || getD y i false) ⌝ }
 {
     let mut r = x;
     let mut i = 0;

@@ -28,7 +28,7 @@ use Rattle.node.specs.declared.peers.Peers.{Peers}
 use Rattle.node.proofs.Parts.{state-own, state-table}
 use Rattle.reply.specs.declared.Context.{Context}
 use Rattle.reply.specs.declared.Progress.{Progress}
-use Rattle.reply.specs.View.{contextOf, Work, gather, workOf, Sound, Stepped, Markable, Refreshed, Open, Writes, Answers, Lists}
+use Rattle.reply.specs.View.{contextOf, Work, gather, workOf, Sound, Stepped, Markable, Refreshed, Writable, Open, Writes, Answers, Lists}
 use Rattle.reply.proofs.Steps.{work-own, work-table, stepped-none, stepped-to, stepped-more, stepped-then}
 use Rattle.reply.proofs.Replies.{replied-state}
 
@@ -215,10 +215,10 @@ module _ (c : Context) (w : Work) (m r : List ℕ) (h : Sound (c .clock) w m r) 
 module _ {c : Context} {t : Table} {u : Progress} {m r : List ℕ} {v : Progress} {r′ : List ℕ} (x : List ℕ) (s : Writes c 1 (reply (contextOf c) x) u r v r′) where
   -- what the states ask of the progress after the digest
   pub states-asked : Open c t u m r → u .fresh ≡ true
-      → Readable (c .clock) t m × (Marking (c .own) (c .clock) (view t m) (u .reached .marks) × ((v .used ≤ mostBytes) × ((mostBytes ≤ length r′) × ((v .headed ≡ not (eqb (v .used) 0)) × (v .omitted + mostNodes ≤ mostU32)))))
+      → Readable (c .clock) t m × (Marking (c .own) (c .clock) (view t m) (u .reached .marks) × (Writable v r′ × (v .omitted + mostNodes ≤ mostU32)))
   states-asked h f = (
     markable-readable (h .marks),
-    (h .marks .cached f .marks, (s .used, (omega (arith, h .room, s .room), (s .headed, omega (arith, s .omitted, h .omitted))))),
+    (h .marks .cached f .marks, (record { used = s .used; room = omega (arith, h .writable .room, s .room); headed = s .headed }, omega (arith, s .omitted, h .omitted))),
   )
 
   pub network-listed : u .fresh ≡ true → x ≡ networkTlv (u .reached .digest) → {w : Progress} {r″ : List ℕ} → Lists c t v m r′ w r″

@@ -1,15 +1,14 @@
 -- The request for network state: held back, left out, or written and noted. Assumes nothing.
 use mathlib.Core.Path.{_≡_, refl, sym, ap, _∙_}
 use mathlib.Core.Bool.{true, not}
-use mathlib.Core.List.{List, [], _∷_}
+use mathlib.Core.List.{List}
 use Prim.Native.Nat.{ℕ, _+_, _≤_, _<_}
 use native.Mathlib.Omega.{arith}
 use lib.Dec.{eqb}
 use lib.ListN.{length}
 use borrow.Author.Tests.{le-leb, lt-leb}
 use Rattle.base.proofs.Tests.{by-test}
-use Rattle.wire.specs.Row.{encode}
-use Rattle.model.specs.Figures.{mostBytes}
+use Rattle.model.specs.Figures.{mostBytes, requestGap}
 use Rattle.model.specs.State.{State as ModelState, Endpoint as ModelEndpoint, endpointAt, withEndpoint, withNext}
 use Rattle.model.specs.Messages.{requestNetworkTlv}
 use Rattle.model.specs.Handle.{withState, fits, reply, mayAsk, hasAsked, askNetwork}
@@ -21,17 +20,13 @@ use Rattle.node.specs.declared.Endpoint.{Endpoint}
 use Rattle.node.specs.declared.peers.Peers.{Peers}
 use Rattle.node.specs.View.{endpointOf, stateOf, Rep, Moved}
 use Rattle.node.proofs.Moves.{moved-to}
+use Rattle.message.proofs.Filled.{request-network-bytes}
 use Rattle.reply.specs.declared.Context.{Context}
 use Rattle.reply.specs.declared.Progress.{Progress}
 use Rattle.reply.specs.Updates.{withLocal}
 use Rattle.reply.specs.View.{contextOf, Work, gather, workOf, Sound, Stepped, Writes}
 use Rattle.reply.proofs.Steps.{work-state, putState, stepped-none, stepped-to, stepped-more, stepped-then, stepped-kept, gathered, local-is, local-moved}
 use Rattle.reply.proofs.Replies.{replied-used, replied-none}
-
--- the bytes of the request
-pub request-bytes : _≡_ {A = List ℕ} (0 ∷ 1 ∷ 0 ∷ 0 ∷ []) requestNetworkTlv
-unfolding encode
-request-bytes = refl
 
 module _ (c : Context) (w : Work) (m r : List ℕ) (h : Sound (c .clock) w m r) (e : Endpoint) (q : endpointOf e ≡ endpointAt (c .endpoint) (stateOf (w .state) m)) where
   next-is : endpointAt (c .endpoint) (workOf w m r .state) .next ≡ e .next
@@ -50,7 +45,7 @@ module _ (c : Context) (w : Work) (m r : List ℕ) (h : Sound (c .clock) w m r) 
     may = rw next-is (le-leb (e .next) (c .clock) p)
 
     written-used : fits (contextOf c) requestNetworkTlv (workOf w m r) ≡ true → w .used < v .used
-    written-used f = omega (arith, replied-used requestNetworkTlv s h f, ap length request-bytes)
+    written-used f = omega (arith, replied-used requestNetworkTlv s h f, ap length request-network-bytes)
 
     -- left out
     pub ask-omitted : v .used ≡ w .used → Stepped c 1 (askNetwork (contextOf c)) w m r v m r′
@@ -60,7 +55,7 @@ module _ (c : Context) (w : Work) (m r : List ℕ) (h : Sound (c .clock) w m r) 
 
     -- written: the next may go out 200 ms later
     pub ask-noted : ¬ (v .used ≡ w .used) → (x : State)
-        → Moved (withEndpoint (c .endpoint) (withNext (c .clock + 200) (endpointAt (c .endpoint) (stateOf (v .state) m))) (stateOf (v .state) m)) m x m
+        → Moved (withEndpoint (c .endpoint) (withNext (c .clock + requestGap) (endpointAt (c .endpoint) (stateOf (v .state) m))) (stateOf (v .state) m)) m x m
         → x .own ≡ v .state .own → x .table ≡ v .state .table
         → Stepped c 1 (askNetwork (contextOf c)) w m r (putState x (v .fresh) v) m r′
     ask-noted u x k o t =
@@ -112,7 +107,7 @@ module _ (c : Context) (low : 1 ≤ c .endpoint) (high : c .endpoint ≤ 4) wher
             is = λ b t p m h. ask-omitted c (gather c b t p d) m r h (d .local) (local-is c b t p d m (h .rep) low high) q (gather c b t p v) r′ (s .is b t p m h) z;
           }
 
-      pub progress-asked : ¬ (v .used ≡ d .used) → Writes c 1 (askNetwork (contextOf c)) d r (localNext (c .clock + 200) v) r′
+      pub progress-asked : ¬ (v .used ≡ d .used) → Writes c 1 (askNetwork (contextOf c)) d r (localNext (c .clock + requestGap) v) r′
       progress-asked z =
           record {
             sender = s .sender;
@@ -121,5 +116,5 @@ module _ (c : Context) (low : 1 ≤ c .endpoint) (high : c .endpoint ≤ 4) wher
             omitted = s .omitted;
             room = s .room;
             is = λ b t p m h. ask-noted c (gather c b t p d) m r h (d .local) (local-is c b t p d m (h .rep) low high) q (gather c b t p v) r′ (s .is b t p m h) z
-                (gathered c b t p (localNext (c .clock + 200) v)) (next-moved (c .clock + 200) b t p v m (s .is b t p m h .sound .rep)) refl refl;
+                (gathered c b t p (localNext (c .clock + requestGap) v)) (next-moved (c .clock + requestGap) b t p v m (s .is b t p m h .sound .rep)) refl refl;
           }

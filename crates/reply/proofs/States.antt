@@ -9,7 +9,7 @@ use Rattle.sha256.specs.Sha256.{hash16}
 use Rattle.sha256.proofs.Sizes.{hash16-length}
 use Rattle.wire.specs.Row.{padding, encode}
 use Rattle.wire.proofs.Good.{row-length}
-use Rattle.model.specs.Figures.{dataLimit, mostAge, lastReading}
+use Rattle.model.specs.Figures.{dataLimit, mostBytes, mostAge, lastReading}
 use Rattle.model.specs.Messages.{stateHead, shortState, wholeState}
 use Rattle.table.specs.declared.Table.{Table}
 use Rattle.table.specs.declared.Entry.{Entry as Meta}
@@ -34,10 +34,10 @@ state-encoded clock m e d h p =
 
 module _ (clock : ℕ) (t : Table) (m : List ℕ) (g : Readable clock t m) (i : ℕ) (p : i < t .count) (e : Meta) (o : Read t i e) where
   -- what `node_state_front` asks of the entry that was read
-  pub front-fits : (n : ℕ) → n ≤ dataLimit → (e .since ≤ clock) × ((e .age ≤ mostAge) × ((clock ≤ lastReading) × ((n ≤ dataLimit) × (length (e .hash) ≡ 16))))
+  pub front-fits : (n : ℕ) → n ≤ dataLimit → (e .since ≤ clock) × ((clock ≤ lastReading) × ((n ≤ dataLimit) × (length (e .hash) ≡ 16)))
   front-fits n q =
-      let f : (e .since ≤ clock) × ((e .age ≤ mostAge) × (clock ≤ lastReading)) = age-fits clock t m g i p e o in
-      (f .0, (f .1 .0, (f .1 .1, (q, rw (o .same, meta-hashed t m i (g .kept) p) (hash16-length (dataOf m (metaAt t i)))))))
+      let f : (e .since ≤ clock) × (clock ≤ lastReading) = age-fits clock t m g i p e o in
+      (f .0, (f .1, (q, rw (o .same, meta-hashed t m i (g .kept) p) (hash16-length (dataOf m (metaAt t i))))))
 
   -- what it gives is the Node State without data
   pub front-short : (x : List ℕ) → x ≡ frontOf clock e 0 → x ++ [] ≡ shortState clock (seen m (metaAt t i))
@@ -55,8 +55,8 @@ module _ (clock : ℕ) (t : Table) (m : List ℕ) (g : Readable clock t m) (i : 
       ∙ state-encoded clock m (metaAt t i) (dataOf m (metaAt t i)) (meta-hashed t m i (g .kept) p) (row-length (dataOf m (metaAt t i)) (data-row clock t m g i p (dataOf m (metaAt t i)) refl))
 
   -- both fit a reply
-  pub front-room : (x d : List ℕ) (n : ℕ) → x ≡ frontOf clock e n → length d ≤ dataLimit → length x + length d ≤ 4000
-  front-room x d n q l = let z : length (e .hash) ≡ 16 = front-fits 0 (omega arith) .1 .1 .1 .1 in rw q (omega arith)
+  pub front-room : (x d : List ℕ) (n : ℕ) → x ≡ frontOf clock e n → length d ≤ dataLimit → length x + length d ≤ mostBytes
+  front-room x d n q l = let z : length (e .hash) ≡ 16 = front-fits 0 (omega arith) .1 .1 .1 in rw q (omega arith)
 
   pub data-room : (d : List ℕ) → d ≡ dataOf m (metaAt t i) → length d ≤ dataLimit
   data-room d k = let l = data-length t m i (g .kept) p in rw (k, l .0) (l .1)

@@ -33,7 +33,7 @@ use Rattle.reply.specs.declared.Context.{Context}
 use Rattle.reply.specs.declared.Sender.{Sender}
 use Rattle.reply.specs.declared.Progress.{Progress}
 use Rattle.reply.specs.Updates.{withLocal}
-use Rattle.reply.specs.View.{Work, gather, workOf, Sound, Ready, Stepped, Markable, Refreshed, Open}
+use Rattle.reply.specs.View.{Work, gather, workOf, Sound, mostCounted, Ready, Stepped, Markable, Refreshed, Open}
 
 -- ---- the model's work by its parts
 
@@ -213,7 +213,7 @@ module _ {c : Context} {w : Work} {m r : List ℕ} where
         (wrote-still (w .state .table) (v .state .table) (u .state .table) m (view (v .state .table) m′) m′ (h .wrote) (n .wrote .slots)))
 
     -- after a step that keeps the invariant the next one can come
-    pub ready-next : Ready c w m r → Midway (c .clock) (f (workOf w m r) .state) → v .omitted ≤ 1000000 → v .dropped ≤ 1000000 → Ready c v m′ r′
+    pub ready-next : Ready c w m r → Midway (c .clock) (f (workOf w m r) .state) → v .omitted ≤ mostCounted → v .dropped ≤ mostCounted → Ready c v m′ r′
     ready-next g i p q =
         record { sound = h .sound; midway = rw stepped-state i; clock = g .clock; first = g .first; fourth = g .fourth; omitted = p; dropped = q }
 
@@ -314,9 +314,7 @@ pub ready-open : {c : Context} (b : State) {t : Table} (p : Peers) {d : Progress
 ready-open {c} b {t} p {d} {m} h =
     record {
       marks = record { kept = h .sound .rep .table; fits = rw (state-own (gathered c b t p d) m, state-table (gathered c b t p d) m) at (h .midway .table); clock = h .clock; cached = h .sound .cached };
-      used = h .sound .used;
-      room = h .sound .room;
-      headed = h .sound .headed;
+      writable = record { used = h .sound .used; room = h .sound .room; headed = h .sound .headed };
       omitted = h .omitted;
       dropped = h .dropped;
       first = h .first;
@@ -341,9 +339,7 @@ module _ {c : Context} {t : Table} {d : Progress} {m : List ℕ} {v : Progress} 
   refreshed-open r k =
       record {
         marks = refreshed-marks (k .marks);
-        used = rw (h .used) (k .used);
-        room = k .room;
-        headed = rw (h .headed, h .used) (k .headed);
+        writable = record { used = rw (h .used) (k .writable .used); room = k .writable .room; headed = rw (h .headed, h .used) (k .writable .headed) };
         omitted = rw (h .omitted) (k .omitted);
         dropped = rw (h .dropped) (k .dropped);
         first = k .first;

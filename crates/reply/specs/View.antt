@@ -6,7 +6,7 @@ use mathlib.Core.Option.{Option, none, some}
 use Prim.Native.Nat.{ℕ, _+_, _-_, _≤_}
 use lib.Dec.{eqb}
 use lib.ListN.{length, take, drop, set}
-use Rattle.model.specs.Figures.{mostBytes, tableBytes, lastReading}
+use Rattle.model.specs.Figures.{mostEndpoints, mostBytes, tableBytes, lastReading}
 use Rattle.model.specs.Messages.{shortState}
 use Rattle.model.specs.Handle.{Context as ModelContext, Sender as ModelSender, Work as ModelWork, replies, reachedNow}
 use Rattle.model.specs.Invariant.{TableFits, Midway}
@@ -67,15 +67,19 @@ pub record Sound (clock : ℕ) (w : Work) (m r : List ℕ) : Type 0 where
   pub headed : w .headed ≡ not (eqb (w .used) 0)
   pub cached : w .fresh ≡ true → Reaching (w .state .own) clock (view (w .state .table) m) (w .reached)
 
+-- a datagram has at most 1,024 TLVs, each with at most 33 replies: a count stays far below the end of its type
+abbrev pub mostCounted : ℕ
+mostCounted = 1000000
+
 -- what a step asks: a sound work that keeps the invariant, a reading and an endpoint in range, counts far from the end of their type
 pub record Ready (c : Context) (w : Work) (m r : List ℕ) : Type 0 where
   pub sound : Sound (c .clock) w m r
   pub midway : Midway (c .clock) (stateOf (w .state) m)
   pub clock : c .clock ≤ lastReading
   pub first : 1 ≤ c .endpoint
-  pub fourth : c .endpoint ≤ 4
-  pub omitted : w .omitted ≤ 1000000
-  pub dropped : w .dropped ≤ 1000000
+  pub fourth : c .endpoint ≤ mostEndpoints
+  pub omitted : w .omitted ≤ mostCounted
+  pub dropped : w .dropped ≤ mostCounted
 
 -- what a step promises: the model's step f, the representation kept, and the bytes past what is written as they were; at most k replies left out, and k TLVs dropped
 pub record Stepped (c : Context) (k : ℕ) (f : ModelWork → ModelWork) (w : Work) (m r : List ℕ) (w′ : Work) (m′ r′ : List ℕ) : Type 0 where
@@ -110,16 +114,20 @@ pub record Refreshed (c : Context) (t : Table) (d : Progress) (m : List ℕ) (v 
   pub fresh : v .fresh ≡ true
   pub reaching : Reaching (c .own) (c .clock) (view t m) (v .reached)
 
--- what a TLV asks: nothing of the peers
-pub record Open (c : Context) (t : Table) (d : Progress) (m r : List ℕ) : Type 0 where
-  pub marks : Markable c t d m
+-- what a reply asks: the room, and our Node Endpoint TLV in front once something is written
+pub record Writable (d : Progress) (r : List ℕ) : Type 0 where
   pub used : d .used ≤ mostBytes
   pub room : mostBytes ≤ length r
   pub headed : d .headed ≡ not (eqb (d .used) 0)
-  pub omitted : d .omitted ≤ 1000000
-  pub dropped : d .dropped ≤ 1000000
+
+-- what a TLV asks: nothing of the peers
+pub record Open (c : Context) (t : Table) (d : Progress) (m r : List ℕ) : Type 0 where
+  pub marks : Markable c t d m
+  pub writable : Writable d r
+  pub omitted : d .omitted ≤ mostCounted
+  pub dropped : d .dropped ≤ mostCounted
   pub first : 1 ≤ c .endpoint
-  pub fourth : c .endpoint ≤ 4
+  pub fourth : c .endpoint ≤ mostEndpoints
 
 -- a step on progress and room alone: the model's step f, whatever state and table there are
 pub record Writes (c : Context) (k : ℕ) (f : ModelWork → ModelWork) (d : Progress) (r : List ℕ) (v : Progress) (r′ : List ℕ) : Type 0 where

@@ -3,21 +3,21 @@ use crate::Context;
 use crate::Progress;
 use base::memory::store;
 use message::put_endpoint;
+use message::request_network_tlv;
 use message::request_node_tlv;
 use model::figures::MOST_BYTES;
 use model::figures::REQUEST_GAP;
 ghost use mathlib.Core.Path.{_≡_};
-ghost use mathlib.Core.Bool.{cond, not};
+ghost use mathlib.Core.Bool.{cond};
 ghost use mathlib.Core.List.{[], _++_};
 ghost use Prim.Native.Nat.{_+_, _≤_, _<_};
-ghost use lib.Dec.{eqb};
 ghost use lib.ListN.{length};
 ghost use Rattle.base.specs.Bytes.{mostU32};
 ghost use Rattle.base.specs.Memory.{written};
-ghost use Rattle.model.specs.Figures.{mostBytes, lastReading};
+ghost use Rattle.model.specs.Figures.{mostEndpoints, mostBytes, lastReading};
 ghost use Rattle.model.specs.Messages.{endpointTlv, requestNodeTlv};
 ghost use Rattle.model.specs.Handle.{reply, askNetwork};
-ghost use Rattle.reply.specs.View.{contextOf, Writes};
+ghost use Rattle.reply.specs.View.{contextOf, Writable, Writes};
 
 // The bytes that precede a reply: our Node Endpoint TLV precedes the first.
 fn head_size(headed: bool) -> usize
@@ -43,7 +43,7 @@ fn put_head(room: &mut [u8], headed: bool, used: usize, own: u32, endpoint: u32)
 
 // A reply TLV, given in two parts; omitted where it does not fit whole.
 pub fn reply(d: Progress, room: &mut [u8], c: Context, front: &[u8], back: &[u8]) -> Progress
-    requires { ⌜ (d .used ≤ mostBytes) × ((mostBytes ≤ length (now room)) × ((d .headed ≡ not (eqb (d .used) 0)) × ((d .omitted < mostU32) × (length (now front) + length (now back) ≤ 4000)))) ⌝ }
+    requires { ⌜ Writable d (now room) × ((d .omitted < mostU32) × (length (now front) + length (now back) ≤ mostBytes)) ⌝ }
     ensures { λ v. ⌜ Writes c 1 (reply (contextOf c) (now (front .entry) ++ now (back .entry))) d (now (room .entry)) v (now (room .exit)) ⌝ }
 {
     let mut next = d;
@@ -65,7 +65,7 @@ pub fn reply(d: Progress, room: &mut [u8], c: Context, front: &[u8], back: &[u8]
 
 // A request for one node's state.
 pub fn ask_node(d: Progress, mem: &[u8], room: &mut [u8], c: Context, node: u32) -> Progress
-    requires { ⌜ (d .used ≤ mostBytes) × ((mostBytes ≤ length (now room)) × ((d .headed ≡ not (eqb (d .used) 0)) × (d .omitted < mostU32))) ⌝ }
+    requires { ⌜ Writable d (now room) × (d .omitted < mostU32) ⌝ }
     ensures { λ v. ⌜ Writes c 1 (reply (contextOf c) (requestNodeTlv node)) d (now (room .entry)) v (now (room .exit)) ⌝ }
 {
     let tlv = request_node_tlv(node);
@@ -74,13 +74,13 @@ pub fn ask_node(d: Progress, mem: &[u8], room: &mut [u8], c: Context, node: u32)
 
 // The request for network state: at most one in 200 ms on an endpoint, counted from one that was written.
 pub fn ask_network(d: Progress, mem: &[u8], room: &mut [u8], c: Context) -> Progress
-    requires { ⌜ (d .used ≤ mostBytes) × ((mostBytes ≤ length (now room)) × ((d .headed ≡ not (eqb (d .used) 0)) × ((d .omitted < mostU32) × ((c .clock ≤ lastReading) × ((1 ≤ c .endpoint) × (c .endpoint ≤ 4)))))) ⌝ }
+    requires { ⌜ Writable d (now room) × ((d .omitted < mostU32) × ((c .clock ≤ lastReading) × ((1 ≤ c .endpoint) × (c .endpoint ≤ mostEndpoints)))) ⌝ }
     ensures { λ v. ⌜ Writes c 1 (askNetwork (contextOf c)) d (now (room .entry)) v (now (room .exit)) ⌝ }
 {
     if c.clock < d.local.next {
         return d;
     }
-    let tlv = [0u8, 1, 0, 0];
+    let tlv = request_network_tlv();
     let mut v = reply(d, room, c, &tlv, &mem[0..0]);
     if v.used == d.used {
         return v;

@@ -4,28 +4,28 @@ use crate::Progress;
 use crate::put::reply;
 use message::network_tlv;
 use message::state_front;
+use model::figures::MOST_NODES;
 use table::Entry;
 use table::Table;
 use table::capped_age;
 use table::data_of;
 use table::meta_at;
 ghost use mathlib.Core.Path.{_≡_};
-ghost use mathlib.Core.Bool.{true, not};
+ghost use mathlib.Core.Bool.{true};
 ghost use mathlib.Core.List.{_++_};
 ghost use Prim.Native.Nat.{_+_, _-_, _≤_, _<_, min};
-ghost use lib.Dec.{eqb};
 ghost use lib.ListN.{length};
 ghost use Rattle.base.specs.Bytes.{big16, big32, mostU32};
-ghost use Rattle.model.specs.Figures.{mostBytes, mostNodes, mostAge, dataLimit, lastReading};
+ghost use Rattle.model.specs.Figures.{mostNodes, mostAge, dataLimit, lastReading};
 ghost use Rattle.model.specs.Messages.{wholeState};
 ghost use Rattle.model.specs.Handle.{reply, onRequestNetwork};
 ghost use Rattle.table.specs.View.{seen, view, metaAt};
 ghost use Rattle.reach.specs.Marks.{Readable, Marking};
-ghost use Rattle.reply.specs.View.{contextOf, Open, Writes, Answers, Lists};
+ghost use Rattle.reply.specs.View.{contextOf, Writable, Open, Writes, Answers, Lists};
 
 // Header and head of the Node State of e, with `len` bytes of data.
 fn node_state_front(e: Entry, clock: u64, len: u16) -> [u8; 32]
-    requires { ⌜ (e .since ≤ clock) × ((e .age ≤ mostAge) × ((clock ≤ lastReading) × ((len ≤ dataLimit) × (length (e .hash) ≡ 16)))) ⌝ }
+    requires { ⌜ (e .since ≤ clock) × ((clock ≤ lastReading) × ((len ≤ dataLimit) × (length (e .hash) ≡ 16))) ⌝ }
     ensures { λ r. ⌜ r ≡ big16 5 ++ (big16 (28 + len) ++ (big32 (e .id) ++ (big32 (e .seq) ++ (big32 (min (e .age + (clock - e .since)) mostAge) ++ e .hash)))) ⌝ }
 {
     let hash = e.hash;
@@ -39,9 +39,9 @@ fn reply_states(
     mem: &[u8],
     room: &mut [u8],
     c: Context,
-    marks: [bool; 32],
+    marks: [bool; MOST_NODES],
 ) -> Progress
-    requires { ⌜ Readable (c .clock) t (now mem) × (Marking (c .own) (c .clock) (view t (now mem)) marks × ((d .used ≤ mostBytes) × ((mostBytes ≤ length (now room)) × ((d .headed ≡ not (eqb (d .used) 0)) × (d .omitted + mostNodes ≤ mostU32))))) ⌝ }
+    requires { ⌜ Readable (c .clock) t (now mem) × (Marking (c .own) (c .clock) (view t (now mem)) marks × (Writable d (now room) × (d .omitted + mostNodes ≤ mostU32))) ⌝ }
     ensures { λ v. ⌜ Lists c t d (now (mem .entry)) (now (room .entry)) v (now (room .exit)) ⌝ }
 {
     let count = t.count;

@@ -13,7 +13,7 @@ ghost use mathlib.Core.Path.{_≡_};
 ghost use mathlib.Core.List.{List, []};
 ghost use Prim.Native.Nat.{ℕ, _≤_};
 ghost use lib.ListN.{length};
-ghost use Rattle.model.specs.Figures.{tableBytes, lastReading};
+ghost use Rattle.model.specs.Figures.{mostEndpoints, tableBytes, lastReading};
 ghost use Rattle.model.specs.Begin.{freshEndpoints, begun};
 ghost use Rattle.table.specs.View.{view, Kept};
 ghost use Rattle.reach.specs.Marks.{Readable};
@@ -32,7 +32,7 @@ fn fresh_endpoint(clock: u64, random: u32) -> Endpoint
 
 // All four.
 fn fresh_endpoints(clock: u64, randoms: [u32; MOST_ENDPOINTS]) -> [Endpoint; MOST_ENDPOINTS]
-    ensures { λ r. ⌜ (length r ≡ 4) × (endpointsOf r ≡ freshEndpoints clock randoms) ⌝ }
+    ensures { λ r. ⌜ (length r ≡ mostEndpoints) × (endpointsOf r ≡ freshEndpoints clock randoms) ⌝ }
 {
     [
         fresh_endpoint(clock, randoms[0]),

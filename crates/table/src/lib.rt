@@ -12,7 +12,7 @@ ghost use mathlib.Core.List.{List, _∷_, []};
 ghost use Prim.Native.Nat.{ℕ, _+_, _-_, _*_, _≤_, _<_, min};
 ghost use lib.ListN.{length};
 ghost use Rattle.base.specs.Memory.{written, spliced, cut};
-ghost use Rattle.model.specs.Figures.{dataLimit, tableBytes, mostAge, lastReading};
+ghost use Rattle.model.specs.Figures.{mostNodes, dataLimit, tableBytes, mostAge, lastReading};
 ghost use Rattle.model.specs.Table.{entryOf, stamp, anew};
 ghost use Rattle.sha256.specs.Sha256.{hash16};
 ghost use Rattle.table.specs.View.{view, live, metaAt, dataOf, Free, FitMeta, Arranged, Kept, Stands, Gap, Finding, Read, Stored, Renumbered, Purged, SlotUsed, withMeta, inserted};
@@ -101,7 +101,7 @@ pub fn capped_age(e: Entry, clock: u64) -> u32
 
 // The table with e at place i.
 fn with_meta(t: Table, i: usize, e: Entry) -> Table
-    requires { ⌜ i < 32 ⌝ }
+    requires { ⌜ i < mostNodes ⌝ }
     ensures { λ r. ⌜ r ≡ withMeta t i e ⌝ }
 {
     let mut n = t;
@@ -111,7 +111,7 @@ fn with_meta(t: Table, i: usize, e: Entry) -> Table
 
 // The entries from place i on move up by one, and e goes in there.
 fn insert_meta(t: Table, i: usize, e: Entry) -> Table
-    requires { ⌜ (t .count < 32) × (i ≤ t .count) ⌝ }
+    requires { ⌜ (t .count < mostNodes) × (i ≤ t .count) ⌝ }
     ensures { λ r. ⌜ r ≡ inserted t i e ⌝ }
 {
     let mut n = t;
@@ -150,8 +150,8 @@ fn slot_used(t: Table, s: u16) -> bool
 
 // A slot that no node uses: there is one while fewer than 32 are held.
 fn free_slot(t: Table) -> u16
-    requires { ⌜ Arranged t × (t .count < 32) ⌝ }
-    ensures { λ r. ⌜ (r < 32) × Free r (live t) ⌝ }
+    requires { ⌜ Arranged t × (t .count < mostNodes) ⌝ }
+    ensures { λ r. ⌜ (r < mostNodes) × Free r (live t) ⌝ }
 {
     let mut s = 0;
     while s < SLOTS {
@@ -232,7 +232,7 @@ pub fn insert(
     hash: [u8; 16],
     bytes: &[u8],
 ) -> Table
-    requires { ⌜ Kept t (now mem) × ((t .count < 32) × (Gap t id i × ((length (now bytes) ≤ dataLimit) × (hash ≡ hash16 (now bytes))))) ⌝ }
+    requires { ⌜ Kept t (now mem) × ((t .count < mostNodes) × (Gap t id i × ((length (now bytes) ≤ dataLimit) × (hash ≡ hash16 (now bytes))))) ⌝ }
     ensures { λ r. ⌜ Stored (entryOf id seq (now (bytes .entry)) (stamp age clock)) t (now (mem .entry)) i r (now (mem .exit)) ⌝ }
 {
     let e = Entry {
@@ -274,7 +274,7 @@ pub fn renumber(t: Table, i: usize, id: u32, seq: u32, age: u32, clock: u64) -> 
 
 // One more if it is kept.
 fn counted(j: usize, kept: bool) -> usize
-    requires { ⌜ j < 32 ⌝ }
+    requires { ⌜ j < mostNodes ⌝ }
     ensures { λ r. ⌜ r ≡ cond kept (j + 1) j ⌝ }
 {
     if kept {

@@ -15,7 +15,7 @@ ghost use Prim.Native.Nat.{_≤_};
 ghost use lib.ListN.{length};
 ghost use Rattle.base.specs.Memory.{written};
 ghost use mathlib.Core.List.{_++_};
-ghost use Rattle.model.specs.Figures.{mostBytes, lastReading};
+ghost use Rattle.model.specs.Figures.{mostEndpoints, mostBytes, lastReading};
 ghost use Rattle.model.specs.Messages.{endpointTlv, networkTlv};
 ghost use Rattle.model.specs.Invariant.{Midway};
 ghost use Rattle.node.specs.View.{stateOf, Rep};
@@ -56,7 +56,7 @@ pub fn tick(
     endpoint: u32,
     randoms: [u32; MOST_ENDPOINTS],
 ) -> Sent
-    requires { ⌜ Rep s (now mem) × (Midway clock (stateOf s (now mem)) × ((clock ≤ lastReading) × ((1 ≤ endpoint) × ((endpoint ≤ 4) × (mostBytes ≤ length (now room)))))) ⌝ }
+    requires { ⌜ Rep s (now mem) × (Midway clock (stateOf s (now mem)) × ((clock ≤ lastReading) × ((1 ≤ endpoint) × ((endpoint ≤ mostEndpoints) × (mostBytes ≤ length (now room)))))) ⌝ }
     ensures { λ r. ⌜ TickedFrom s (now (mem .entry)) (now (room .entry)) clock endpoint randoms r (now (mem .exit)) (now (room .exit)) ⌝ }
 {
     let b = cleared(s, mem, clock, endpoint, randoms);

@@ -17,7 +17,10 @@ enum-told-4 : tie.Need-enum-told-4
 enum-told-4 c = search needs
 
 linked-requires : tie.Need-linked-requires
-linked-requires c κs = alterable-as (c .before .enum-told4 .given .1) (c .before .before .before .before .before .args .c) (c .before .before .before .before .before .args .t) (c .before .before .before .before .before .args .mem .now) (c .before .before .before .before .before .args .value .now) (c .before .before .before .before .before .pre .1)
+linked-requires c κs =
+    let s = c .before .before .before .before .before in
+    let a = s .args in
+    alterable-as (c .before .enum-told4 .given .1) (a .c) (a .t) (a .mem .now) (a .value .now) (s .pre .1)
 
 enum-told-5 : tie.Need-enum-told-5
 enum-told-5 c = search needs
@@ -27,8 +30,10 @@ enum-known-act c = search needs
 
 taken-requires : tie.Need-taken-requires
 taken-requires c κs =
-    let k = alterable-as (c .before .before .act .given .1) (c .before .before .before .before .before .before .args .c) (c .before .before .before .before .before .before .args .t) (c .before .before .before .before .before .before .args .mem .now) (c .before .before .before .before .before .before .args .value .now) (c .before .before .before .before .before .before .pre .1) in
-    (c .before .before .before .before .before .before .pre .0, k)
+    let s = c .before .before .before .before .before .before in
+    let a = s .args in
+    let k = alterable-as (c .before .before .act .given .1) (a .c) (a .t) (a .mem .now) (a .value .now) (s .pre .1) in
+    (s .pre .0, k)
 
 returns : tie.Need-returns
 returns c =

@@ -9,13 +9,19 @@ enum-told : tie.Need-enum-told
 enum-told c = search needs
 
 tell-network-requires : tie.Need-tell-network-requires
-tell-network-requires c κs = (c .before .before .before .before .before .pre .0, answerable-as (c .before .enum-told .given .1) (c .before .before .before .before .before .args .c) (c .before .before .before .before .before .args .t) (c .before .before .before .before .before .args .mem .now) (c .before .before .before .before .before .args .d) (c .before .before .before .before .before .pre .1))
+tell-network-requires c κs =
+    let s = c .before .before .before .before .before in
+    let a = s .args in
+    (s .pre .0, answerable-as (c .before .enum-told .given .1) (a .c) (a .t) (a .mem .now) (a .d) (s .pre .1))
 
 enum-known-act : tie.Need-enum-known-act
 enum-known-act c = search needs
 
 tell-node-requires : tie.Need-tell-node-requires
-tell-node-requires c κs = (c .before .before .before .before .before .before .pre .0, answerable-as (c .before .before .act .given .1) (c .before .before .before .before .before .before .args .c) (c .before .before .before .before .before .before .args .t) (c .before .before .before .before .before .before .args .mem .now) (c .before .before .before .before .before .before .args .d) (c .before .before .before .before .before .before .pre .1))
+tell-node-requires c κs =
+    let s = c .before .before .before .before .before .before in
+    let a = s .args in
+    (s .pre .0, answerable-as (c .before .before .act .given .1) (a .c) (a .t) (a .mem .now) (a .d) (s .pre .1))
 
 enum-told-2 : tie.Need-enum-told-2
 enum-told-2 c = search needs
@@ -23,7 +29,7 @@ enum-told-2 c = search needs
 ask-network-requires : tie.Need-ask-network-requires
 ask-network-requires c κs =
     let h = c .before .before .before .before .before .pre .0 in
-    (h .used, (h .room, (h .headed, (omega (arith, h .omitted), (h .marks .clock, (h .first, h .fourth))))))
+    (h .writable, (omega (arith, h .omitted), (h .marks .clock, (h .first, h .fourth))))
 
 enum-told-3 : tie.Need-enum-told-3
 enum-told-3 c = search needs
@@ -43,7 +49,7 @@ enum-known-act-2 c = search needs
 noted-requires : tie.Need-noted-requires
 noted-requires c κs =
     let h = c .before .before .before .before .before .before .pre .0 in
-    (h .used, (h .room, (h .headed, (h .omitted, h .dropped))))
+    (h .writable, (h .omitted, h .dropped))
 
 same-length : tie.Need-same-length
 same-length c = search needs

@@ -52,7 +52,9 @@ shared-slice-read-t33 : tie.Need-shared-slice-read-t33
 shared-slice-read-t33 c = search needs
 
 returns : tie.Need-returns
-returns c = hash-read (c .before .before .before .before .before .before .before .before .before .before .before .before .before .before .before .before .args .value .now) (c .before .before .before .before .before .before .before .before .before .before .before .before .before .before .before .before .pre)
+returns c =
+    let s = c .before .before .before .before .before .before .before .before .before .before .before .before .before .before .before .before in
+    hash-read (s .args .value .now) (s .pre)
 
 pub hash-in-spec : {M : Type 1} → statement M
 hash-in-spec =

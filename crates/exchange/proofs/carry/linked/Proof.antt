@@ -43,7 +43,14 @@ same-length : tie.Need-same-length
 same-length c = search needs
 
 returns : tie.Need-returns
-returns c = linked-as (c .before .before .before .before .before .before .before .before .before .before .before .before .before .before .before .pre) (c .before .before .before .before .before .before .before .before .before .before .before .before .own-place .ensures) (c .before .before .before .before .before .before .before .before .before .before .before .before .before .before .before .args .f) (c .before .before .before .before .before .before .place-of .result) (c .before .before .before .before .before .before .before .before .before .before .peer-tlv .result) (c .before .before .before .before .before .before .before .before .data-of .result .now) (c .before .before .before .before .before .before .before .before .data-of .ensures .0) (c .before .before .before .before .before .before .place-of .ensures .1) (c .before .before .before .before .before .before .before .before .before .before .before .meta-at .result) (c .before .before .before .before .before .before .before .before .before .before .before .meta-at .ensures) (c .before .before .before .before .advanced .result) (c .before .before .before .before .advanced .ensures) (c .before .before .before .before .before .before .before .before .before .before .peer-tlv .ensures) (c .before .before .insert-tlv .ensures)
+returns c =
+    let s = c .before .before .before .before .before .before .before .before .before .before .before .before .before .before .before in
+    let meta-at = c .before .before .before .before .before .before .before .before .before .before .before .meta-at in
+    let peer-tlv = c .before .before .before .before .before .before .before .before .before .before .peer-tlv in
+    let data-of = c .before .before .before .before .before .before .before .before .data-of in
+    let place-of = c .before .before .before .before .before .before .place-of in
+    let advanced = c .before .before .before .before .advanced in
+    linked-as (s .pre) (c .before .before .before .before .before .before .before .before .before .before .before .before .own-place .ensures) (s .args .f) (place-of .result) (peer-tlv .result) (data-of .result .now) (data-of .ensures .0) (place-of .ensures .1) (meta-at .result) (meta-at .ensures) (advanced .result) (advanced .ensures) (peer-tlv .ensures) (c .before .before .insert-tlv .ensures)
 
 pub linked-spec : {M : Type 1} → statement M
 linked-spec = tie.close (tie.spec own-place-requires meta-at-requires peer-tlv-requires data-of-requires slice-aggregate-place-of place-of-requires advanced-requires slice-aggregate-insert-tlv insert-tlv-requires same-length returns)

@@ -14,15 +14,18 @@ enum-known-decision : tie.Need-enum-known-decision
 enum-known-decision c = search needs
 
 renumber-requires : tie.Need-renumber-requires
-renumber-requires c κs = (c .before .before .before .before .before .pre .0 .arranged, acts-as (c .before .decision .given .1) (c .before .before .before .before .before .args .t) (c .before .before .before .before .before .pre .1 .0))
+renumber-requires c κs =
+    let s = c .before .before .before .before .before in
+    (s .pre .0 .arranged, acts-as (c .before .decision .given .1) (s .args .t) (s .pre .1 .0))
 
 enum-known-decision-2 : tie.Need-enum-known-decision-2
 enum-known-decision-2 c = search needs
 
 stored-requires : tie.Need-stored-requires
 stored-requires c κs =
-    let a = c .before .before .before .before .before .before .args in
-    let p = c .before .before .before .before .before .before .pre in
+    let s = c .before .before .before .before .before .before in
+    let a = s .args in
+    let p = s .pre in
     let q = c .before .before .decision2 .given .1 in
     let f = taken-as q (a .t) (a .value .now) (p .1 .1) in
     (p .0, (acts-as q (a .t) (p .1 .0), (f .0, f .1)))

@@ -79,14 +79,16 @@ loop-less c = omega (arith, c .before .before .tlv-at .ensures .onward, c .befor
 
 loop-again : tie.Need-loop-again Inv-loop μ-loop
 loop-again c =
-    let a = c .before .before .before .before .before .before .before .before .before .before .before .before .before .args in
+    let s = c .before .before .before .before .before .before .before .before .before .before .before .before .before in
+    let at-start = c .before .before .before .before .before .at-start in
+    let a = s .args in
     let c′ = callIn (a .s) (a .datagram .now) (a .clock) (a .endpoint) (a .unicast) (a .randoms) in
     let l = c .before .before .before .before .loop in
     let h = c .before .before .tlv-at in
     let w = gather c′ (a .s) (l .t) (l .p) (l .d) in
     let z = passed-step c′ w (l .mem) (l .room) (tlvOf (a .datagram .now) (l .at) (h .result)) (l .inv .0 .ready) (h .result .kind) (sym (h .ensures .kind)) (sym (c .before .is-idle .ensures) ∙ c .if1 .taken) in (
       through-on c′ (a .datagram .now) _ (a .mem .now) (a .room .now) (l .at) w (l .mem) (l .room) (l .inv .0) (h .result) (h .ensures)
-          (bytes-known (a .datagram .now) (λ i. c .before .before .before .before .before .before .before .before .before .before .shared-slice-known .given i .fits)) (c .before .before .before .before .before .before .before .before .before .before .before .before .before .pre .1 .1 .1 .1 .1 .1 .1) (rw (c .before .before .before .before .before .at-start .ensures .1) refl) (rw (c .before .before .before .before .before .at-start .ensures .1) refl) w (l .mem) (l .room) z,
+          (bytes-known (a .datagram .now) (λ i. c .before .before .before .before .before .before .before .before .before .before .shared-slice-known .given i .fits)) (s .pre .1 .1 .1 .1 .1 .1 .1) (rw (at-start .ensures .1) refl) (rw (at-start .ensures .1) refl) w (l .mem) (l .room) z,
       l .inv .1,
     )
 
@@ -94,7 +96,9 @@ looked-requires : tie.Need-looked-requires Inv-loop μ-loop
 looked-requires c κs = (c .before .before .before .before .before .before .before .before .before .before .before .before .before .pre .1 .1 .1 .1 .1 .1 .0, c .before .before .before .before .loop .inv .1)
 
 add-b : tie.Need-add-b Inv-loop μ-loop
-add-b c = omega (arith, c .before .before .before .before .tlv-at .ensures .inside, c .before .before .before .before .tlv-at .ensures .within)
+add-b c =
+    let tlv-at = c .before .before .before .before .tlv-at in
+    omega (arith, tlv-at .ensures .inside, tlv-at .ensures .within)
 
 sub-on-tlv : tie.Need-sub-on-tlv Inv-loop μ-loop
 sub-on-tlv c = omega arith
@@ -103,7 +107,9 @@ part-on-tlv-start : tie.Need-part-on-tlv-start Inv-loop μ-loop
 part-on-tlv-start c = search needs
 
 part-on-tlv-end : tie.Need-part-on-tlv-end Inv-loop μ-loop
-part-on-tlv-end c = omega (arith, c .before .before .before .before .before .tlv-at .ensures .inside, c .before .before .before .before .before .tlv-at .ensures .within)
+part-on-tlv-end c =
+    let tlv-at = c .before .before .before .before .before .tlv-at in
+    omega (arith, tlv-at .ensures .inside, tlv-at .ensures .within)
 
 on-tlv-requires : tie.Need-on-tlv-requires Inv-loop μ-loop
 on-tlv-requires c κs =
@@ -112,8 +118,9 @@ on-tlv-requires c κs =
 
 answered-requires : tie.Need-answered-requires Inv-loop μ-loop
 answered-requires c κs =
+    let on-tlv = c .before .before .before .on-tlv in
     let l = c .before .before .before .before .before .before .before .before .before .before .before .before .loop in
-    (c .before .before .before .on-tlv .ensures .opens (l .room) (open-aside (c .before .before .before .before .before .before .before .looked .result .found) (ready-open (c .before .before .before .before .before .before .before .before .before .before .before .before .before .before .before .before .before .before .before .before .before .args .s) (l .p) (l .inv .0 .ready))), c .before .before .before .on-tlv .ensures .answers)
+    (on-tlv .ensures .opens (l .room) (open-aside (c .before .before .before .before .before .before .before .looked .result .found) (ready-open (c .before .before .before .before .before .before .before .before .before .before .before .before .before .before .before .before .before .before .before .before .before .args .s) (l .p) (l .inv .0 .ready))), on-tlv .ensures .answers)
 
 is-altering-requires : tie.Need-is-altering-requires Inv-loop μ-loop
 is-altering-requires c κs = search needs
@@ -125,7 +132,9 @@ part-altered-start : tie.Need-part-altered-start Inv-loop μ-loop
 part-altered-start c = search needs
 
 part-altered-end : tie.Need-part-altered-end Inv-loop μ-loop
-part-altered-end c = omega (arith, c .before .before .before .before .before .before .before .before .before .before .before .before .before .before .before .before .tlv-at .ensures .inside, c .before .before .before .before .before .before .before .before .before .before .before .before .before .before .before .before .tlv-at .ensures .within)
+part-altered-end c =
+    let tlv-at = c .before .before .before .before .before .before .before .before .before .before .before .before .before .before .before .before .tlv-at in
+    omega (arith, tlv-at .ensures .inside, tlv-at .ensures .within)
 
 altered-requires : tie.Need-altered-requires Inv-loop μ-loop
 altered-requires c κs = (c .before .before .before .before .before .before .before .before .before .before .before .before .before .before .before .before .before .before .before .loop .inv .0 .ready .sound .rep .table, c .before .before .before .before .before .before .before .before .before .before .on-tlv .ensures .alters)
@@ -137,41 +146,58 @@ met-requires : tie.Need-met-requires Inv-loop μ-loop
 met-requires c κs = (c .before .before .before .before .before .before .before .before .before .before .before .before .before .before .before .before .before .before .before .loop .inv .0 .ready .sound .rep .peers, c .before .before .before .before .before .before .before .before .before .before .on-tlv .ensures .few)
 
 loop-less-2 : tie.Need-loop-less-2 Inv-loop μ-loop
-loop-less-2 c = omega (arith, c .before .before .before .before .before .before .before .before .before .before .before .before .before .before .before .before .before .before .tlv-at .ensures .onward, c .before .before .before .before .before .before .before .before .before .before .before .before .before .before .before .before .before .before .tlv-at .ensures .within)
+loop-less-2 c =
+    let tlv-at = c .before .before .before .before .before .before .before .before .before .before .before .before .before .before .before .before .before .before .tlv-at in
+    omega (arith, tlv-at .ensures .onward, tlv-at .ensures .within)
 
 loop-again-2 : tie.Need-loop-again-2 Inv-loop μ-loop
 loop-again-2 c =
-    let a = c .before .before .before .before .before .before .before .before .before .before .before .before .before .before .before .before .before .before .before .before .before .before .before .before .before .before .before .before .before .args in
+    let s = c .before .before .before .before .before .before .before .before .before .before .before .before .before .before .before .before .before .before .before .before .before .before .before .before .before .before .before .before .before in
+    let at-start = c .before .before .before .before .before .before .before .before .before .before .before .before .before .before .before .before .before .before .before .before .before .at-start in
+    let looked = c .before .before .before .before .before .before .before .before .before .before .before .before .before .before .before .looked in
+    let on-tlv = c .before .before .before .before .before .before .before .before .before .before .before .on-tlv in
+    let answered = c .before .before .before .before .before .before .before .answered in
+    let is-altering = c .before .before .before .before .is-altering in
+    let if2 = c .before .before .before .if2 in
+    let a = s .args in
     let l = c .before .before .before .before .before .before .before .before .before .before .before .before .before .before .before .before .before .before .before .before .loop in
     let h = c .before .before .before .before .before .before .before .before .before .before .before .before .before .before .before .before .before .before .tlv-at in
-    let x = c .before .before .before .before .before .before .before .before .before .before .before .on-tlv .result in
-    let c″ = contextIn (a .s) (a .clock) (a .endpoint) (a .unicast) (a .randoms) (c .before .before .before .before .before .before .before .before .before .before .before .before .before .before .before .looked .result .found) in (
-      carried-on (a .s) (a .datagram .now) (a .clock) (a .endpoint) (a .unicast) (a .randoms) _ (a .mem .now) (a .room .now) (l .at) (l .t) (l .p) (l .d) (l .mem) (l .room) (l .inv .0) (h .result) (h .ensures) (c .before .before .before .before .before .before .before .before .before .before .before .before .before .before .before .looked .result .found) (c .before .before .before .before .before .before .before .before .before .before .before .before .before .before .before .looked .ensures .1)
-          (bytes-known (a .datagram .now) (λ i. c .before .before .before .before .before .before .before .before .before .before .before .before .before .before .before .before .before .before .before .before .before .before .before .before .before .before .shared-slice-known .given i .fits)) (c .before .before .before .before .before .before .before .before .before .before .before .before .before .before .before .before .before .before .before .before .before .before .before .before .before .before .before .before .before .pre .1 .1 .1 .1 .1 .1 .1) (rw (c .before .before .before .before .before .before .before .before .before .before .before .before .before .before .before .before .before .before .before .before .before .at-start .ensures .1) refl) (rw (c .before .before .before .before .before .before .before .before .before .before .before .before .before .before .before .before .before .before .before .before .before .at-start .ensures .1) refl) _
-          (h .ensures .value ∙ sym (part-is (a .datagram .now) (h .result .start) (h .result .start + h .result .len) (h .result .len) refl)) x (c .before .before .before .before .before .before .before .before .before .before .before .on-tlv .ensures)
-          (c .before .before .before .before .before .before .before .answered .result) _ (c .before .before .before .before .before .before .before .answered .ensures) (c .before .before .before .if2 .t) (c .before .before .before .if2 .mem)
-          (⊎-elim (λ b. rw (b .6, b .7) (b .3 .ensures)) (λ b. rw (b .1, b .2) (unaltered c″ (x .progress .sender) (x .act) (c .before .before .before .before .is-altering .result) (c .before .before .before .before .is-altering .ensures) (b .0 .left) _ (l .t) (l .mem))) (c .before .before .before .if2 .came))
+    let x = on-tlv .result in
+    let c″ = contextIn (a .s) (a .clock) (a .endpoint) (a .unicast) (a .randoms) (looked .result .found) in (
+      carried-on (a .s) (a .datagram .now) (a .clock) (a .endpoint) (a .unicast) (a .randoms) _ (a .mem .now) (a .room .now) (l .at) (l .t) (l .p) (l .d) (l .mem) (l .room) (l .inv .0) (h .result) (h .ensures) (looked .result .found) (looked .ensures .1)
+          (bytes-known (a .datagram .now) (λ i. c .before .before .before .before .before .before .before .before .before .before .before .before .before .before .before .before .before .before .before .before .before .before .before .before .before .before .shared-slice-known .given i .fits)) (s .pre .1 .1 .1 .1 .1 .1 .1) (rw (at-start .ensures .1) refl) (rw (at-start .ensures .1) refl) _
+          (h .ensures .value ∙ sym (part-is (a .datagram .now) (h .result .start) (h .result .start + h .result .len) (h .result .len) refl)) x (on-tlv .ensures)
+          (answered .result) _ (answered .ensures) (if2 .t) (if2 .mem)
+          (⊎-elim (λ b. rw (b .6, b .7) (b .3 .ensures)) (λ b. rw (b .1, b .2) (unaltered c″ (x .progress .sender) (x .act) (is-altering .result) (is-altering .ensures) (b .0 .left) _ (l .t) (l .mem))) (if2 .came))
           (c .met .result) (c .met .ensures .0) (c .met .ensures .1),
-      c .before .before .before .before .before .before .before .before .before .before .before .before .before .before .before .looked .ensures .0,
+      looked .ensures .0,
     )
 
 loop-less-3 : tie.Need-loop-less-3 Inv-loop μ-loop
-loop-less-3 c = omega (arith, c .before .before .before .before .before .before .before .before .before .before .before .before .before .before .before .before .before .tlv-at .ensures .onward, c .before .before .before .before .before .before .before .before .before .before .before .before .before .before .before .before .before .tlv-at .ensures .within)
+loop-less-3 c =
+    let tlv-at = c .before .before .before .before .before .before .before .before .before .before .before .before .before .before .before .before .before .tlv-at in
+    omega (arith, tlv-at .ensures .onward, tlv-at .ensures .within)
 
 loop-again-3 : tie.Need-loop-again-3 Inv-loop μ-loop
 loop-again-3 c =
-    let a = c .before .before .before .before .before .before .before .before .before .before .before .before .before .before .before .before .before .before .before .before .before .before .before .before .before .before .before .before .args in
+    let s = c .before .before .before .before .before .before .before .before .before .before .before .before .before .before .before .before .before .before .before .before .before .before .before .before .before .before .before .before in
+    let at-start = c .before .before .before .before .before .before .before .before .before .before .before .before .before .before .before .before .before .before .before .before .at-start in
+    let looked = c .before .before .before .before .before .before .before .before .before .before .before .before .before .before .looked in
+    let on-tlv = c .before .before .before .before .before .before .before .before .before .before .on-tlv in
+    let answered = c .before .before .before .before .before .before .answered in
+    let is-altering = c .before .before .before .is-altering in
+    let a = s .args in
     let l = c .before .before .before .before .before .before .before .before .before .before .before .before .before .before .before .before .before .before .before .loop in
     let h = c .before .before .before .before .before .before .before .before .before .before .before .before .before .before .before .before .before .tlv-at in
-    let x = c .before .before .before .before .before .before .before .before .before .before .on-tlv .result in
-    let c″ = contextIn (a .s) (a .clock) (a .endpoint) (a .unicast) (a .randoms) (c .before .before .before .before .before .before .before .before .before .before .before .before .before .before .looked .result .found) in (
-      carried-on (a .s) (a .datagram .now) (a .clock) (a .endpoint) (a .unicast) (a .randoms) _ (a .mem .now) (a .room .now) (l .at) (l .t) (l .p) (l .d) (l .mem) (l .room) (l .inv .0) (h .result) (h .ensures) (c .before .before .before .before .before .before .before .before .before .before .before .before .before .before .looked .result .found) (c .before .before .before .before .before .before .before .before .before .before .before .before .before .before .looked .ensures .1)
-          (bytes-known (a .datagram .now) (λ i. c .before .before .before .before .before .before .before .before .before .before .before .before .before .before .before .before .before .before .before .before .before .before .before .before .before .shared-slice-known .given i .fits)) (c .before .before .before .before .before .before .before .before .before .before .before .before .before .before .before .before .before .before .before .before .before .before .before .before .before .before .before .before .pre .1 .1 .1 .1 .1 .1 .1) (rw (c .before .before .before .before .before .before .before .before .before .before .before .before .before .before .before .before .before .before .before .before .at-start .ensures .1) refl) (rw (c .before .before .before .before .before .before .before .before .before .before .before .before .before .before .before .before .before .before .before .before .at-start .ensures .1) refl) _
-          (h .ensures .value ∙ sym (part-is (a .datagram .now) (h .result .start) (h .result .start + h .result .len) (h .result .len) refl)) x (c .before .before .before .before .before .before .before .before .before .before .on-tlv .ensures)
-          (c .before .before .before .before .before .before .answered .result) _ (c .before .before .before .before .before .before .answered .ensures) (c .before .before .if2 .t) (c .before .before .if2 .mem)
-          (⊎-elim (λ b. rw (b .6, b .7) (b .3 .ensures)) (λ b. rw (b .1, b .2) (unaltered c″ (x .progress .sender) (x .act) (c .before .before .before .is-altering .result) (c .before .before .before .is-altering .ensures) (b .0 .left) _ (l .t) (l .mem))) (c .before .before .if2 .came))
+    let x = on-tlv .result in
+    let c″ = contextIn (a .s) (a .clock) (a .endpoint) (a .unicast) (a .randoms) (looked .result .found) in (
+      carried-on (a .s) (a .datagram .now) (a .clock) (a .endpoint) (a .unicast) (a .randoms) _ (a .mem .now) (a .room .now) (l .at) (l .t) (l .p) (l .d) (l .mem) (l .room) (l .inv .0) (h .result) (h .ensures) (looked .result .found) (looked .ensures .1)
+          (bytes-known (a .datagram .now) (λ i. c .before .before .before .before .before .before .before .before .before .before .before .before .before .before .before .before .before .before .before .before .before .before .before .before .before .shared-slice-known .given i .fits)) (s .pre .1 .1 .1 .1 .1 .1 .1) (rw (at-start .ensures .1) refl) (rw (at-start .ensures .1) refl) _
+          (h .ensures .value ∙ sym (part-is (a .datagram .now) (h .result .start) (h .result .start + h .result .len) (h .result .len) refl)) x (on-tlv .ensures)
+          (answered .result) _ (answered .ensures) (c .before .before .if2 .t) (c .before .before .if2 .mem)
+          (⊎-elim (λ b. rw (b .6, b .7) (b .3 .ensures)) (λ b. rw (b .1, b .2) (unaltered c″ (x .progress .sender) (x .act) (is-altering .result) (is-altering .ensures) (b .0 .left) _ (l .t) (l .mem))) (c .before .before .if2 .came))
           (l .p) (l .inv .0 .ready .sound .rep .peers) (unmet c″ (x .progress .sender) (x .act) (c .before .is-meeting .result) (c .before .is-meeting .ensures) (c .if3 .left) (peersOf (l .p))),
-      c .before .before .before .before .before .before .before .before .before .before .before .before .before .before .looked .ensures .0,
+      looked .ensures .0,
     )
 
 refreshed-requires : tie.Need-refreshed-requires Inv-loop μ-loop
@@ -194,13 +220,14 @@ same-length-2 c = c .before .before .before .before .before .before .before .loo
 
 returns : tie.Need-returns Inv-loop μ-loop
 returns c =
+    let refreshed = c .before .before .before .before .refreshed in
     let a = c .before .before .before .before .before .before .before .before .before .before .before .before .before .before .before .before .args in
     let c′ = callIn (a .s) (a .datagram .now) (a .clock) (a .endpoint) (a .unicast) (a .randoms) in
     let l = c .before .before .before .before .before .before .before .loop in
     let w = gather c′ (a .s) (l .t) (l .p) (l .d) in
     received (a .s) (a .mem .now) (a .room .now) (a .datagram .now) (a .clock) (a .endpoint) (a .unicast) (a .randoms) (c′ .others) _ _ (set-getD (a .s .endpoints) (a .endpoint - 1) _) refl w (l .mem) (l .room)
     (through-end c′ (a .datagram .now) _ (a .mem .now) (a .room .now) (l .at) w (l .mem) (l .room) (rw (c .before .before .before .before .before .before .before .before .at-start .ensures .1) at (l .inv .0)) (c .before .before .before .before .before .before .loop-test .left))
-    (c .before .before .before .before .refreshed .result .reached .digest) (c .before .before .before .before .refreshed .ensures .reaching .digest) (c .settled .result) (c .settled .ensures (a .s .last))
+    (refreshed .result .reached .digest) (refreshed .ensures .reaching .digest) (c .settled .result) (c .settled .ensures (a .s .last))
 
 pub handle-spec : {M : Type 1} → statement M
 handle-spec =

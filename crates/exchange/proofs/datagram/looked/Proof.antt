@@ -5,7 +5,9 @@ returns : tie.Need-returns
 returns c = (c .before .before .pre .1, λ e. absurd (c .if1 .taken e))
 
 returns-2 : tie.Need-returns-2
-returns-2 c = (c .before .before .before .pre .1, λ e. c .before .before .before .pre .1 (c .if2 .taken))
+returns-2 c =
+    let p = c .before .before .before .pre in
+    (p .1, λ e. p .1 (c .if2 .taken))
 
 has-other-requires : tie.Need-has-other-requires
 has-other-requires c κs = c .before .before .before .pre .0

@@ -27,7 +27,11 @@ returns c v p =
     (gap-of (c .before .before .before .before .before .before .args .t) (c .before .before .before .before .before .before .args .node) (c .before .enum-told .given .0 .0) (c .before .before .before .find .result) (c .before .enum-told .given .1) (c .before .before .before .find .ensures)))
 
 array-read-if1 : tie.Need-array-read-if1
-array-read-if1 c = omega (arith, stands-of (c .before .before .before .before .before .before .before .args .t) (c .before .before .before .before .before .before .before .args .node) (c .before .before .found .given .0 .0) (c .before .before .before .before .find .result) (c .before .before .found .given .1) (c .before .before .before .before .find .ensures) .at, c .before .before .before .before .before .before .before .pre .kept .arranged .most)
+array-read-if1 c =
+    let s = c .before .before .before .before .before .before .before in
+    let a = s .args in
+    let find = c .before .before .before .before .find in
+    omega (arith, stands-of (a .t) (a .node) (c .before .before .found .given .0 .0) (find .result) (c .before .before .found .given .1) (find .ensures) .at, s .pre .kept .arranged .most)
 
 returns-2 : tie.Need-returns-2
 returns-2 c v p =

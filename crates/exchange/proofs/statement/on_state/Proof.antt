@@ -13,7 +13,9 @@ returns : tie.Need-returns
 returns c p = state-ours (c .before .before .before .before .before .before .args .value .now) (c .before .before .before .read-u32 .result) (c .before .before .before .read-u32 .ensures) (c .before .if1 .taken) (c .on-own-state .ensures p)
 
 decide-requires : tie.Need-decide-requires
-decide-requires c κs = (c .before .before .before .before .before .pre .0 .kept, c .before .before .before .before .before .pre .1)
+decide-requires c κs =
+    let p = c .before .before .before .before .before .pre in
+    (p .0 .kept, p .1)
 
 returns-2 : tie.Need-returns-2
 returns-2 c p = state-theirs (c .before .before .before .before .before .before .args .value .now) (c .before .before .before .read-u32 .result) (c .before .before .before .read-u32 .ensures) (c .before .if1 .left) (c .decide .result) (c .decide .ensures .0) (c .decide .ensures .1 .0) (c .decide .ensures .1 .1)

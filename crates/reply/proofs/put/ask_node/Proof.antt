@@ -23,13 +23,15 @@ part-reply-end c = search needs
 reply-requires : tie.Need-reply-requires
 reply-requires c κs =
     let h = c .before .before .before .before .before .before .pre in
-    (h .0, (h .1 .0, (h .1 .1 .0, (h .1 .1 .1, search needs))))
+    (h .0, (h .1, search needs))
 
 same-length : tie.Need-same-length
 same-length c = search needs
 
 returns : tie.Need-returns
-returns c = replied-as (c .before .before .reply .ensures) (append-nil (c .before .before .before .before .before .before .request-node-tlv .result) ∙ c .before .before .before .before .before .before .request-node-tlv .ensures)
+returns c =
+    let request-node-tlv = c .before .before .before .before .before .before .request-node-tlv in
+    replied-as (c .before .before .reply .ensures) (append-nil (request-node-tlv .result) ∙ request-node-tlv .ensures)
 
 pub ask-node-spec : {M : Type 1} → statement M
 ask-node-spec = tie.close (tie.spec request-node-tlv-requires slice-aggregate-reply sub-reply part-reply-start part-reply-end reply-requires same-length returns)

@@ -10,7 +10,10 @@ returns c =
     head-none (a .headed) (a .used) (a .own) (a .endpoint) (a .room .now) (c .if1 .taken)
 
 put-endpoint-requires : tie.Need-put-endpoint-requires
-put-endpoint-requires c κs = head-fits (c .before .before .before .args .headed) (c .before .before .before .args .used) _ (c .before .if1 .left) (c .before .before .before .pre .1)
+put-endpoint-requires c κs =
+    let s = c .before .before .before in
+    let a = s .args in
+    head-fits (a .headed) (a .used) _ (c .before .if1 .left) (s .pre .1)
 
 add-result : tie.Need-add-result
 add-result c = omega (arith, c .before .before .before .before .before .before .pre .0)

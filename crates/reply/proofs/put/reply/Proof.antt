@@ -20,7 +20,10 @@ add-next : tie.Need-add-next
 add-next c = search needs
 
 returns : tie.Need-returns
-returns c = progress-full (c .before .before .before .before .before .before .args .c) (c .before .before .before .before .before .before .args .d) (c .before .before .before .before .before .before .args .room .now) (c .before .before .before .before .before .before .pre .0) (c .before .before .before .before .before .before .pre .1 .0) (c .before .before .before .before .before .before .pre .1 .1 .0) (c .before .before .before .before .before .before .args .front .now) (c .before .before .before .before .before .before .args .back .now) (c .before .before .head-size .result) (c .before .before .head-size .ensures .0) (c .before .if1 .taken)
+returns c =
+    let s = c .before .before .before .before .before .before in
+    let a = s .args in
+    progress-full (a .c) (a .d) (a .room .now) (s .pre .0 .used) (s .pre .0 .room) (s .pre .0 .headed) (a .front .now) (a .back .now) (c .before .before .head-size .result) (c .before .before .head-size .ensures .0) (c .before .if1 .taken)
 
 put-head-requires : tie.Need-put-head-requires
 put-head-requires c κs = search needs
@@ -41,7 +44,12 @@ same-length : tie.Need-same-length
 same-length c = search needs
 
 returns-2 : tie.Need-returns-2
-returns-2 c = progress-written (c .before .before .before .before .before .before .before .before .before .before .before .before .before .before .before .before .before .args .c) (c .before .before .before .before .before .before .before .before .before .before .before .before .before .before .before .before .before .args .d) (c .before .before .before .before .before .before .before .before .before .before .before .before .before .before .before .before .before .args .room .now) (c .before .before .before .before .before .before .before .before .before .before .before .before .before .before .before .before .before .pre .0) (c .before .before .before .before .before .before .before .before .before .before .before .before .before .before .before .before .before .pre .1 .0) (c .before .before .before .before .before .before .before .before .before .before .before .before .before .before .before .before .before .pre .1 .1 .0) (c .before .before .before .before .before .before .before .before .before .before .before .before .before .before .before .before .before .args .front .now) (c .before .before .before .before .before .before .before .before .before .before .before .before .before .before .before .before .before .args .back .now) (c .before .before .before .before .before .before .before .before .before .before .before .before .before .head-size .result) (c .before .before .before .before .before .before .before .before .before .before .before .before .before .head-size .ensures .0) (omega arith) (c .before .before .before .before .before .before .before .before .before .before .put-head .result) (c .before .before .before .before .before .before .before .before .before .before .put-head .ensures .0) _ _ _ (c .before .before .before .before .before .before .before .before .before .before .put-head .ensures .1) (c .before .before .before .before .before .before .store .ensures) (c .before .before .store2 .ensures) (search needs)
+returns-2 c =
+    let s = c .before .before .before .before .before .before .before .before .before .before .before .before .before .before .before .before .before in
+    let a = s .args in
+    let head-size = c .before .before .before .before .before .before .before .before .before .before .before .before .before .head-size in
+    let put-head = c .before .before .before .before .before .before .before .before .before .before .put-head in
+    progress-written (a .c) (a .d) (a .room .now) (s .pre .0 .used) (s .pre .0 .room) (s .pre .0 .headed) (a .front .now) (a .back .now) (head-size .result) (head-size .ensures .0) (omega (arith, c .before .before .before .before .before .before .before .before .before .before .before .before .if1 .left)) (put-head .result) (put-head .ensures .0) _ _ _ (put-head .ensures .1) (c .before .before .before .before .before .before .store .ensures) (c .before .before .store2 .ensures) (search needs)
 
 pub reply-spec : {M : Type 1} → statement M
 reply-spec = tie.close (tie.spec head-size-requires add-need add-need-2 sub-if1 add-next returns put-head-requires add-mid store-requires store-requires-2 add-next-2 same-length returns-2)

@@ -7,7 +7,9 @@ use native.Mathlib.Omega.{arith}
 use Rattle.reply.proofs.Answers.{digest-wide, states-asked, network-listed}
 
 network-tlv-requires : tie.Need-network-tlv-requires
-network-tlv-requires c κs = digest-wide (c .before .before .before .before .pre .0 .marks) (c .before .before .before .before .pre .1)
+network-tlv-requires c κs =
+    let p = c .before .before .before .before .pre in
+    digest-wide (p .0 .marks) (p .1)
 
 slice-aggregate-reply : tie.Need-slice-aggregate-reply
 slice-aggregate-reply c = search needs
@@ -24,10 +26,12 @@ part-reply-end c = search needs
 reply-requires : tie.Need-reply-requires
 reply-requires c κs =
     let h = c .before .before .before .before .before .before .before .before .pre .0 in
-    (h .used, (h .room, (h .headed, (omega (arith, h .omitted), search needs))))
+    (h .writable, (omega (arith, h .omitted), search needs))
 
 reply-states-requires : tie.Need-reply-states-requires
-reply-states-requires c κs = states-asked (c .before .before .before .before .before .before .before .network-tlv .result ++ []) (c .before .before .before .reply .ensures) (c .before .before .before .before .before .before .before .before .before .before .before .before .pre .0) (c .before .before .before .before .before .before .before .before .before .before .before .before .pre .1)
+reply-states-requires c κs =
+    let p = c .before .before .before .before .before .before .before .before .before .before .before .before .pre in
+    states-asked (c .before .before .before .before .before .before .before .network-tlv .result ++ []) (c .before .before .before .reply .ensures) (p .0) (p .1)
 
 same-length : tie.Need-same-length
 same-length c = search needs
