@@ -125,6 +125,7 @@ pub fn handle(
     requires { ⌜ Rep s (now mem) × (Midway clock (stateOf s (now mem)) × ((clock ≤ lastReading) × ((1 ≤ endpoint) × ((endpoint ≤ mostEndpoints) × ((mostBytes ≤ length (now room)) × ((isRow (now datagram) ≡ true) × (length (now datagram) ≤ mostBytes))))))) ⌝ }
     ensures { λ r. ⌜ Handled s (now (mem .entry)) (now (room .entry)) (now (datagram .entry)) clock endpoint unicast randoms r (now (mem .exit)) (now (room .exit)) ⌝ }
 {
+    // Locals are indexed: an index into a parameter copies it whole.
     let k = (endpoint - 1) as usize;
     let numbers = randoms;
     let random = numbers[k];
