@@ -1,6 +1,8 @@
 // A payment into our own data.
 use model::figures::MOST_ENDPOINTS;
 use model::figures::PUBLISH_LIMIT;
+use model::numbers::DATA_FULL;
+use model::numbers::PAID_ALREADY;
 use model::sequence::advanced;
 use node::State;
 use node::publish::own_data;
@@ -37,10 +39,10 @@ pub fn refusal(s: State, mem: &[u8], clock: u64, household: u32, receipt: u32, a
     let ours = own_data(s, mem);
     let standing = find_tlv(ours, &tlv[..n]);
     let Standing::Nowhere = standing else {
-        return 8;
+        return PAID_ALREADY;
     };
     if PUBLISH_LIMIT < ours.len() + n {
-        return 9;
+        return DATA_FULL;
     }
     0
 }

@@ -1,31 +1,36 @@
 // What calls that change nothing answer. A number is one of document 01's, or 0 where the call is accepted; with another number all else is 0.
 use model::figures::MOST_NODES;
 
-// total, sum: cents, and how many reachable payments are unreadable.
+// What total and sum answer.
 #[repr(C)]
 pub struct Summed {
     pub number: u32,
+    // Cents.
     pub value: i64,
+    // Payments of reachable nodes that can't be read, of whatever household.
     pub unread: u32,
 }
 
-// marks: the identifiers of the reachable nodes, ascending, are the first `count`; and the network digest.
+// What marks answers.
 #[repr(C)]
 pub struct Marked {
     pub number: u32,
     pub count: usize,
+    // The first count are the identifiers of the reachable nodes, ascending; the others are 0.
     pub nodes: [u32; MOST_NODES],
+    // The network digest.
     pub digest: [u8; 16],
 }
 
-// save: how many bytes of the room the snapshot takes.
+// What save answers.
 #[repr(C)]
 pub struct Saved {
     pub number: u32,
+    // Bytes of the snapshot, at the front of what was lent for it.
     pub length: usize,
 }
 
-// show: a part of the table memory.
+// What show answers: a part of the table memory.
 #[repr(C)]
 pub struct Extent {
     pub start: usize,

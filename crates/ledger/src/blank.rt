@@ -55,7 +55,7 @@ const ALONE: [u8; 16] = [
 // The send point that the random number 0 gives.
 const FIRST_POINT: u64 = LEAST_INTERVAL / 2;
 
-// Node 0, begun at reading 0 with random numbers 0, with whatever table memory.
+// The state to start from, with whatever table memory: node 0, begun at reading 0 with random numbers 0.
 #[no_mangle]
 pub extern "C" fn pingvratha_blank() -> State
     ensures { λ r. ⌜ Blank r ⌝ }

@@ -1,6 +1,7 @@
 // Calls that change state.
 use crate::refusal;
 use model::figures::MOST_ENDPOINTS;
+use model::numbers::NOT_A_SNAPSHOT;
 use node::State;
 use node::answers::Answer;
 use node::answers::Done;
@@ -8,57 +9,64 @@ use node::answers::Sent;
 ghost use Rattle.accounts.specs.Tallied.{paymentOf};
 ghost use Rattle.ledger.specs.Promises.{AsLeft, Begins, Resumes, Receives, Ticks, Pays, Purges};
 
-// Our node alone.
+// Begins with our node alone: empty data, sequence number 0, no peers. Also over a running node and at an earlier reading; all that was held is gone.
 #[no_mangle]
 pub extern "C" fn pingvratha_begin(
-    s: State,
-    mem: &[u8],
+    state: State,
+    memory: &[u8],
     own: u32,
     clock: u64,
     randoms: &[u32; MOST_ENDPOINTS],
 ) -> Done
-    requires { ⌜ AsLeft s (now mem) ⌝ }
-    ensures { λ r. ⌜ Begins own clock (now (randoms .entry)) s (now (mem .entry)) r ⌝ }
+    requires { ⌜ AsLeft state (now memory) ⌝ }
+    ensures { λ r. ⌜ Begins own clock (now (randoms .entry)) state (now (memory .entry)) r ⌝ }
 {
-    let number = refusal::of_start(clock, mem.len());
+    let number = refusal::of_start(clock, memory.len());
     if number != 0 {
-        return Done { number, state: s };
+        return Done { number, state };
     }
     Done {
         number: 0,
-        state: start::begin::begin(own, clock, *randoms, mem),
+        state: start::begin::begin(own, clock, *randoms, memory),
     }
 }
 
-// The node of a snapshot.
+// Goes on from a snapshot, at whatever reading. Our peers are unknown at first, so that only our own node is reachable, and our data are published anew.
 #[no_mangle]
 pub extern "C" fn pingvratha_resume(
-    s: State,
-    mem: &mut [u8],
-    bytes: &[u8],
+    state: State,
+    memory: &mut [u8],
+    snapshot: &[u8],
     clock: u64,
     randoms: &[u32; MOST_ENDPOINTS],
 ) -> Done
-    requires { ⌜ AsLeft s (now mem) ⌝ }
-    ensures { λ r. ⌜ Resumes (now (bytes .entry)) clock (now (randoms .entry)) s (now (mem .entry)) r (now (mem .exit)) ⌝ }
+    requires { ⌜ AsLeft state (now memory) ⌝ }
+    ensures { λ r. ⌜ Resumes (now (snapshot .entry)) clock (now (randoms .entry)) state (now (memory .entry)) r (now (memory .exit)) ⌝ }
 {
-    let number = refusal::of_start(clock, mem.len());
+    let number = refusal::of_start(clock, memory.len());
     if number != 0 {
-        return Done { number, state: s };
+        return Done { number, state };
     }
-    let r = start::resume::resume(s, bytes, mem, clock, *randoms);
-    let state = r.state;
+    let r = start::resume::resume(state, snapshot, memory, clock, *randoms);
+    let next = r.state;
     if !r.ok {
-        return Done { number: 11, state };
+        return Done {
+            number: NOT_A_SNAPSHOT,
+            state: next,
+        };
     }
-    Done { number: 0, state }
+    Done {
+        number: 0,
+        state: next,
+    }
 }
 
-// A datagram that came in on the endpoint; replies are written to the front of the room.
+// Takes in a datagram that came on the endpoint, by unicast or else by multicast, and writes the reply to the front of the room; length 0 means that there is
+// none.
 #[no_mangle]
 pub extern "C" fn pingvratha_receive(
-    s: State,
-    mem: &mut [u8],
+    state: State,
+    memory: &mut [u8],
     room: &mut [u8],
     datagram: &[u8],
     clock: u64,
@@ -66,94 +74,111 @@ pub extern "C" fn pingvratha_receive(
     unicast: bool,
     randoms: &[u32; MOST_ENDPOINTS],
 ) -> Answer
-    requires { ⌜ AsLeft s (now mem) ⌝ }
-    ensures { λ r. ⌜ Receives (now (datagram .entry)) clock endpoint unicast (now (randoms .entry)) s (now (mem .entry)) (now (room .entry)) r (now (mem .exit)) (now (room .exit)) ⌝ }
+    requires { ⌜ AsLeft state (now memory) ⌝ }
+    ensures { λ r. ⌜ Receives (now (datagram .entry)) clock endpoint unicast (now (randoms .entry)) state (now (memory .entry)) (now (room .entry)) r (now (memory .exit)) (now (room .exit)) ⌝ }
 {
-    let number = refusal::of_datagram(s.last, clock, endpoint, mem.len(), room.len(), datagram);
+    let number = refusal::of_datagram(
+        state.last,
+        clock,
+        endpoint,
+        memory.len(),
+        room.len(),
+        datagram,
+    );
     if number != 0 {
         return Answer {
             number,
-            state: s,
+            state,
             length: 0,
             omitted: 0,
             dropped: 0,
         };
     }
-    exchange::datagram::handle(s, mem, room, datagram, clock, endpoint, unicast, *randoms)
+    exchange::datagram::handle(
+        state,
+        memory,
+        room,
+        datagram,
+        clock,
+        endpoint,
+        unicast,
+        *randoms,
+    )
 }
 
-// The endpoint's time: silent peers go, and what Trickle says is written to the front of the room.
+// Does what is due on the endpoint: removes peers that fell silent, publishes our data anew before it is too old, and writes what is to be sent to the front
+// of the room; length 0 means that there is nothing. At one reading a second tick may still have something to do, a third never.
 #[no_mangle]
 pub extern "C" fn pingvratha_tick(
-    s: State,
-    mem: &mut [u8],
+    state: State,
+    memory: &mut [u8],
     room: &mut [u8],
     clock: u64,
     endpoint: u32,
     randoms: &[u32; MOST_ENDPOINTS],
 ) -> Sent
-    requires { ⌜ AsLeft s (now mem) ⌝ }
-    ensures { λ r. ⌜ Ticks clock endpoint (now (randoms .entry)) s (now (mem .entry)) (now (room .entry)) r (now (mem .exit)) (now (room .exit)) ⌝ }
+    requires { ⌜ AsLeft state (now memory) ⌝ }
+    ensures { λ r. ⌜ Ticks clock endpoint (now (randoms .entry)) state (now (memory .entry)) (now (room .entry)) r (now (memory .exit)) (now (room .exit)) ⌝ }
 {
-    let number = refusal::of_tick(s.last, clock, endpoint, mem.len(), room.len());
+    let number = refusal::of_tick(state.last, clock, endpoint, memory.len(), room.len());
     if number != 0 {
         return Sent {
             number,
-            state: s,
+            state,
             length: 0,
         };
     }
-    upkeep::tick::tick(s, mem, room, clock, endpoint, *randoms)
+    upkeep::tick::tick(state, memory, room, clock, endpoint, *randoms)
 }
 
-// A payment of our own, published. The host saves the state before anything is sent.
+// Puts a payment, in cents, into our data and publishes it. Save before anything is sent.
 #[no_mangle]
 pub extern "C" fn pingvratha_pay(
-    s: State,
-    mem: &mut [u8],
+    state: State,
+    memory: &mut [u8],
     clock: u64,
     household: u32,
     receipt: u32,
     amount: i32,
     randoms: &[u32; MOST_ENDPOINTS],
 ) -> Done
-    requires { ⌜ AsLeft s (now mem) ⌝ }
-    ensures { λ r. ⌜ Pays clock (paymentOf household receipt amount) (now (randoms .entry)) s (now (mem .entry)) r (now (mem .exit)) ⌝ }
+    requires { ⌜ AsLeft state (now memory) ⌝ }
+    ensures { λ r. ⌜ Pays clock (paymentOf household receipt amount) (now (randoms .entry)) state (now (memory .entry)) r (now (memory .exit)) ⌝ }
 {
-    let early = refusal::of_household(s.last, clock, mem.len(), household);
+    let early = refusal::of_household(state.last, clock, memory.len(), household);
     if early != 0 {
         return Done {
             number: early,
-            state: s,
+            state,
         };
     }
-    let number = accounts::pay::refusal(s, mem, clock, household, receipt, amount);
+    let number = accounts::pay::refusal(state, memory, clock, household, receipt, amount);
     if number != 0 {
-        return Done { number, state: s };
+        return Done { number, state };
     }
     Done {
         number: 0,
-        state: accounts::pay::pay(s, mem, clock, household, receipt, amount, *randoms),
+        state: accounts::pay::pay(state, memory, clock, household, receipt, amount, *randoms),
     }
 }
 
-// Only the reachable nodes stay.
+// Drops every node that is not reachable, its payments with it, which makes place for others. What is reachable again later comes again.
 #[no_mangle]
 pub extern "C" fn pingvratha_purge(
-    s: State,
-    mem: &[u8],
+    state: State,
+    memory: &[u8],
     clock: u64,
     randoms: &[u32; MOST_ENDPOINTS],
 ) -> Done
-    requires { ⌜ AsLeft s (now mem) ⌝ }
-    ensures { λ r. ⌜ Purges clock (now (randoms .entry)) s (now (mem .entry)) r ⌝ }
+    requires { ⌜ AsLeft state (now memory) ⌝ }
+    ensures { λ r. ⌜ Purges clock (now (randoms .entry)) state (now (memory .entry)) r ⌝ }
 {
-    let number = refusal::of_table(s.last, clock, mem.len());
+    let number = refusal::of_table(state.last, clock, memory.len());
     if number != 0 {
-        return Done { number, state: s };
+        return Done { number, state };
     }
     Done {
         number: 0,
-        state: upkeep::purge::purge(s, mem, clock, *randoms),
+        state: upkeep::purge::purge(state, memory, clock, *randoms),
     }
 }

@@ -8,6 +8,8 @@ use accounts::totals::Whose;
 use accounts::totals::tally;
 use model::figures::MOST_NODES;
 use model::figures::TABLE_BYTES;
+use model::numbers::BUFFER_TOO_SMALL;
+use model::numbers::NO_SUCH_NODE;
 use node::State;
 use reach::list::marked_nodes;
 use reach::reach;
@@ -26,13 +28,13 @@ ghost use Rattle.ledger.specs.Promises.{AsLeft, Totals, SumsUp, Marks, S
 ghost use Rattle.ledger.specs.Inner.{Summing};
 
 // What is summed over the reachable nodes.
-fn summed(s: State, mem: &[u8], clock: u64, w: Whose) -> Summed
-    requires { ⌜ Rep s (now mem) × (Midway clock (stateOf s (now mem)) × (clock ≤ lastReading)) ⌝ }
-    ensures { λ r. ⌜ Summing w clock (stateOf s (now (mem .entry))) r ⌝ }
+fn summed(state: State, memory: &[u8], clock: u64, w: Whose) -> Summed
+    requires { ⌜ Rep state (now memory) × (Midway clock (stateOf state (now memory)) × (clock ≤ lastReading)) ⌝ }
+    ensures { λ r. ⌜ Summing w clock (stateOf state (now (memory .entry))) r ⌝ }
 {
-    let found = reach(s.table, mem, s.own, clock);
+    let found = reach(state.table, memory, state.own, clock);
     let marks = found.marks;
-    let t = tally(s.table, mem, marks, w);
+    let t = tally(state.table, memory, marks, w);
     Summed {
         number: 0,
         value: t.value,
@@ -40,13 +42,18 @@ fn summed(s: State, mem: &[u8], clock: u64, w: Whose) -> Summed
     }
 }
 
-// A household's total over the reachable nodes.
+// The total of a household over all reachable nodes.
 #[no_mangle]
-pub extern "C" fn pingvratha_total(s: State, mem: &[u8], clock: u64, household: u32) -> Summed
-    requires { ⌜ AsLeft s (now mem) ⌝ }
-    ensures { λ r. ⌜ Totals clock household s (now (mem .entry)) r ⌝ }
+pub extern "C" fn pingvratha_total(
+    state: State,
+    memory: &[u8],
+    clock: u64,
+    household: u32,
+) -> Summed
+    requires { ⌜ AsLeft state (now memory) ⌝ }
+    ensures { λ r. ⌜ Totals clock household state (now (memory .entry)) r ⌝ }
 {
-    let number = refusal::of_household(s.last, clock, mem.len(), household);
+    let number = refusal::of_household(state.last, clock, memory.len(), household);
     if number != 0 {
         return Summed {
             number,
@@ -55,8 +62,8 @@ pub extern "C" fn pingvratha_total(s: State, mem: &[u8], clock: u64, household: 
         };
     }
     summed(
-        s,
-        mem,
+        state,
+        memory,
         clock,
         Whose {
             all: false,
@@ -67,11 +74,11 @@ pub extern "C" fn pingvratha_total(s: State, mem: &[u8], clock: u64, household: 
 
 // The sum over all households.
 #[no_mangle]
-pub extern "C" fn pingvratha_sum(s: State, mem: &[u8], clock: u64) -> Summed
-    requires { ⌜ AsLeft s (now mem) ⌝ }
-    ensures { λ r. ⌜ SumsUp clock s (now (mem .entry)) r ⌝ }
+pub extern "C" fn pingvratha_sum(state: State, memory: &[u8], clock: u64) -> Summed
+    requires { ⌜ AsLeft state (now memory) ⌝ }
+    ensures { λ r. ⌜ SumsUp clock state (now (memory .entry)) r ⌝ }
 {
-    let number = refusal::of_table(s.last, clock, mem.len());
+    let number = refusal::of_table(state.last, clock, memory.len());
     if number != 0 {
         return Summed {
             number,
@@ -80,8 +87,8 @@ pub extern "C" fn pingvratha_sum(s: State, mem: &[u8], clock: u64) -> Summed
         };
     }
     summed(
-        s,
-        mem,
+        state,
+        memory,
         clock,
         Whose {
             all: true,
@@ -90,13 +97,13 @@ pub extern "C" fn pingvratha_sum(s: State, mem: &[u8], clock: u64) -> Summed
     )
 }
 
-// The reachable nodes and the network digest.
+// The reachable nodes, whose payments are summed, and the network digest.
 #[no_mangle]
-pub extern "C" fn pingvratha_marks(s: State, mem: &[u8], clock: u64) -> Marked
-    requires { ⌜ AsLeft s (now mem) ⌝ }
-    ensures { λ r. ⌜ Marks clock s (now (mem .entry)) r ⌝ }
+pub extern "C" fn pingvratha_marks(state: State, memory: &[u8], clock: u64) -> Marked
+    requires { ⌜ AsLeft state (now memory) ⌝ }
+    ensures { λ r. ⌜ Marks clock state (now (memory .entry)) r ⌝ }
 {
-    let number = refusal::of_table(s.last, clock, mem.len());
+    let number = refusal::of_table(state.last, clock, memory.len());
     if number != 0 {
         return Marked {
             number,
@@ -105,10 +112,10 @@ pub extern "C" fn pingvratha_marks(s: State, mem: &[u8], clock: u64) -> Marked
             digest: [0; 16],
         };
     }
-    let found = reach(s.table, mem, s.own, clock);
+    let found = reach(state.table, memory, state.own, clock);
     let marks = found.marks;
     let digest = found.digest;
-    let n = marked_nodes(s.table, marks);
+    let n = marked_nodes(state.table, marks);
     let nodes = n.list;
     Marked {
         number: 0,
@@ -118,52 +125,41 @@ pub extern "C" fn pingvratha_marks(s: State, mem: &[u8], clock: u64) -> Marked
     }
 }
 
-// The snapshot, written to the front of the room.
+// Writes a snapshot of all nodes held to the front of what is lent for it.
 #[no_mangle]
-pub extern "C" fn pingvratha_save(s: State, mem: &[u8], room: &mut [u8], clock: u64) -> Saved
-    requires { ⌜ AsLeft s (now mem) ⌝ }
-    ensures { λ r. ⌜ Saves clock s (now (mem .entry)) (now (room .entry)) r (now (room .exit)) ⌝ }
+pub extern "C" fn pingvratha_save(
+    state: State,
+    memory: &[u8],
+    snapshot: &mut [u8],
+    clock: u64,
+) -> Saved
+    requires { ⌜ AsLeft state (now memory) ⌝ }
+    ensures { λ r. ⌜ Saves clock state (now (memory .entry)) (now (snapshot .entry)) r (now (snapshot .exit)) ⌝ }
 {
-    let number = refusal::of_save(s.last, clock, mem.len(), room.len());
+    let number = refusal::of_save(state.last, clock, memory.len(), snapshot.len());
     if number != 0 {
         return Saved { number, length: 0 };
     }
-    let length = snapshot::save::save(s.table, mem, s.own, clock, room);
+    let length = snapshot::save::save(state.table, memory, state.own, clock, snapshot);
     Saved { number: 0, length }
 }
 
-// 4 or 10: why nothing is shown; 0 where the data are.
+// Where a node's data stand in the table memory, reachable or not. Length 0 for empty data, and for a refusal, whose number show_refusal gives.
 #[no_mangle]
-pub extern "C" fn pingvratha_show_refusal(s: State, mem: &[u8], node: u32) -> u32
-    requires { ⌜ AsLeft s (now mem) ⌝ }
-    ensures { λ r. ⌜ ShowRefuses node s (now (mem .entry)) r ⌝ }
+pub extern "C" fn pingvratha_show(state: State, memory: &[u8], node: u32) -> Extent
+    requires { ⌜ AsLeft state (now memory) ⌝ }
+    ensures { λ r. ⌜ Shows node state (now (memory .entry)) r ⌝ }
 {
-    if mem.len() < TABLE_BYTES {
-        return 4;
-    }
-    let found = find(s.table, node);
-    match found {
-        Found::At(_) => 0,
-        Found::Missing(_) => 10,
-    }
-}
-
-// Where the node's data stand in the table memory.
-#[no_mangle]
-pub extern "C" fn pingvratha_show(s: State, mem: &[u8], node: u32) -> Extent
-    requires { ⌜ AsLeft s (now mem) ⌝ }
-    ensures { λ r. ⌜ Shows node s (now (mem .entry)) r ⌝ }
-{
-    if mem.len() < TABLE_BYTES {
+    if memory.len() < TABLE_BYTES {
         return Extent {
             start: 0,
             length: 0,
         };
     }
-    let found = find(s.table, node);
+    let found = find(state.table, node);
     match found {
         Found::At(i) => {
-            let e = meta_at(s.table, i);
+            let e = meta_at(state.table, i);
             let len = e.len as usize;
             Extent {
                 start: start_of(e),
@@ -177,13 +173,29 @@ pub extern "C" fn pingvratha_show(s: State, mem: &[u8], node: u32) -> Extent
     }
 }
 
-// The node's data, a part of the table memory; an empty part where the call is refused.
-pub fn show<'a>(s: State, mem: &'a [u8], node: u32) -> &'a [u8]
-    requires { ⌜ AsLeft s (now mem) ⌝ }
-    ensures { λ r. ⌜ ((x : Extent) × Shows node s (now (mem .entry)) x × (now r ≡ take (x .length) (drop (x .start) (now (mem .entry)))) × (r .ptr .0 ≡ mem .entry .ptr .0) × (r .ptr .1 ≡ x .start + mem .entry .ptr .1)) ⌝ }
+// The number of show with the same arguments; 0 where the data are shown.
+#[no_mangle]
+pub extern "C" fn pingvratha_show_refusal(state: State, memory: &[u8], node: u32) -> u32
+    requires { ⌜ AsLeft state (now memory) ⌝ }
+    ensures { λ r. ⌜ ShowRefuses node state (now (memory .entry)) r ⌝ }
 {
-    let x = pingvratha_show(s, mem, node);
+    if memory.len() < TABLE_BYTES {
+        return BUFFER_TOO_SMALL;
+    }
+    let found = find(state.table, node);
+    match found {
+        Found::At(_) => 0,
+        Found::Missing(_) => NO_SUCH_NODE,
+    }
+}
+
+// The node's data, a part of the table memory; an empty part where the call is refused.
+pub fn show<'a>(state: State, memory: &'a [u8], node: u32) -> &'a [u8]
+    requires { ⌜ AsLeft state (now memory) ⌝ }
+    ensures { λ r. ⌜ ((x : Extent) × Shows node state (now (memory .entry)) x × (now r ≡ take (x .length) (drop (x .start) (now (memory .entry)))) × (r .ptr .0 ≡ memory .entry .ptr .0) × (r .ptr .1 ≡ x .start + memory .entry .ptr .1)) ⌝ }
+{
+    let x = pingvratha_show(state, memory, node);
     let a = x.start;
     let b = a + x.length;
-    &mem[a..b]
+    &memory[a..b]
 }

@@ -6,6 +6,13 @@ use model::figures::MOST_ENDPOINTS;
 use model::figures::MOST_HOUSEHOLD;
 use model::figures::SNAPSHOT_BYTES;
 use model::figures::TABLE_BYTES;
+use model::numbers::BUFFER_TOO_SMALL;
+use model::numbers::CLOCK_BACK;
+use model::numbers::CLOCK_TOO_HIGH;
+use model::numbers::DATAGRAM_MALFORMED;
+use model::numbers::DATAGRAM_TOO_LONG;
+use model::numbers::NO_SUCH_ENDPOINT;
+use model::numbers::NO_SUCH_HOUSEHOLD;
 use wire::row::is_row;
 ghost use mathlib.Core.Path.{_≡_};
 ghost use mathlib.Core.List.{[], _∷_};
@@ -28,13 +35,13 @@ pub fn of_table(last: u64, clock: u64, table: usize) -> u32
     ensures { λ r. ⌜ ((s : ModelState) → s .last ≡ last → r ≡ firstOf (late clock ∷ back clock s ∷ smallTable table ∷ [])) ⌝ }
 {
     if LAST_READING < clock {
-        return 1;
+        return CLOCK_TOO_HIGH;
     }
     if clock < last {
-        return 2;
+        return CLOCK_BACK;
     }
     if table < TABLE_BYTES {
-        return 4;
+        return BUFFER_TOO_SMALL;
     }
     0
 }
@@ -48,10 +55,10 @@ pub fn of_household(last: u64, clock: u64, table: usize, household: u32) -> u32
         return early;
     }
     if household < LEAST_HOUSEHOLD {
-        return 7;
+        return NO_SUCH_HOUSEHOLD;
     }
     if MOST_HOUSEHOLD < household {
-        return 7;
+        return NO_SUCH_HOUSEHOLD;
     }
     0
 }
@@ -65,7 +72,7 @@ pub fn of_save(last: u64, clock: u64, table: usize, room: usize) -> u32
         return early;
     }
     if room < SNAPSHOT_BYTES {
-        return 4;
+        return BUFFER_TOO_SMALL;
     }
     0
 }
@@ -75,22 +82,22 @@ pub fn of_tick(last: u64, clock: u64, endpoint: u32, table: usize, room: usize) 
     ensures { λ r. ⌜ ((s : ModelState) → s .last ≡ last → r ≡ firstOf (late clock ∷ back clock s ∷ noSuchEndpoint endpoint ∷ smallRoom table room mostBytes ∷ [])) ⌝ }
 {
     if LAST_READING < clock {
-        return 1;
+        return CLOCK_TOO_HIGH;
     }
     if clock < last {
-        return 2;
+        return CLOCK_BACK;
     }
     if endpoint < 1 {
-        return 3;
+        return NO_SUCH_ENDPOINT;
     }
     if LAST_ENDPOINT < endpoint {
-        return 3;
+        return NO_SUCH_ENDPOINT;
     }
     if table < TABLE_BYTES {
-        return 4;
+        return BUFFER_TOO_SMALL;
     }
     if room < MOST_BYTES {
-        return 4;
+        return BUFFER_TOO_SMALL;
     }
     0
 }
@@ -111,10 +118,10 @@ pub fn of_datagram(
         return early;
     }
     if MOST_BYTES < datagram.len() {
-        return 5;
+        return DATAGRAM_TOO_LONG;
     }
     if !is_row(datagram) {
-        return 6;
+        return DATAGRAM_MALFORMED;
     }
     0
 }

@@ -1,45 +1,54 @@
-// Every figure of document 01 that code uses, once: in the order of specs/Figures.antt and by its names.
+// Every figure of document 01 that code uses, once: in the order of specs/Figures.antt and by its names. Hosts get them with these comments.
 
-// Nodes with our own; bytes of node data that we accept and hold of each, and that we let our own come to by publishing more.
+// Nodes held, with our own.
 pub const MOST_NODES: usize = 32;
 
+// Bytes of node data that are accepted, and held of each node.
 pub const DATA_LIMIT: usize = 1024;
 
+// Bytes that our own data may come to by publishing more.
 pub const PUBLISH_LIMIT: usize = DATA_LIMIT;
 
-// The table memory has a slot for each node.
+// Bytes of table memory: a slot for each node.
 pub const TABLE_BYTES: usize = MOST_NODES * DATA_LIMIT;
 
-// Endpoints, numbered from 1 on, and peers over all of them.
+// Endpoints, numbered from 1 on.
 pub const MOST_ENDPOINTS: usize = 4;
 
+// Peers over all endpoints.
 pub const MOST_PEERS: usize = 16;
 
-// Bytes of a datagram, and of what is sent.
+// Bytes of a datagram at most, of what is sent at most, and of the room lent for it.
 pub const MOST_BYTES: usize = 4096;
 
+// Bytes of a snapshot at most, and of what is lent for it.
 pub const SNAPSHOT_BYTES: usize = 33319;
 
 // The last reading of the clock, in milliseconds.
 pub const LAST_READING: u64 = 4611686018427387903;
 
-// Trickle: Imin, Imax, k, and where the count stays.
+// Trickle's shortest interval, in milliseconds.
 pub const LEAST_INTERVAL: u64 = 200;
 
+// Trickle's longest interval.
 pub const GREATEST_INTERVAL: u64 = 25600;
 
+// Trickle's redundancy constant: so many equal digests heard make sending needless.
 pub const REDUNDANCY: u32 = 1;
 
+// Where the count of equal digests stays.
 pub const MOST_COUNT: u32 = 255;
 
 // A request for network state goes out at most once in so many milliseconds on an endpoint.
 pub const REQUEST_GAP: u64 = 200;
 
-// A node this old leads no further; we republish; the largest age that is sent or saved.
+// A node this old leads no further.
 pub const AGE_LIMIT: u64 = 4294934528;
 
+// Our data are published anew at this age.
 pub const REFRESH_AGE: u64 = 4294901760;
 
+// The largest age that is sent or saved.
 pub const MOST_AGE: u64 = 4294967295;
 
 // The interval of a peer that publishes no Keep-Alive TLV for its endpoint.
@@ -51,7 +60,10 @@ pub const RECLAIM_STEP: u32 = 1000;
 // Bytes of a Peer TLV.
 pub const PEER_BYTES: usize = 16;
 
-// Households; the definition is wire's, which takes no figures from here.
+// The definition of households is wire's, which takes no figures from here.
+
+// The first household.
 pub const LEAST_HOUSEHOLD: u32 = 1;
 
+// The last household.
 pub const MOST_HOUSEHOLD: u32 = 9999;

@@ -1,3 +1,4 @@
-// Document 01 as definitions (specs/) with the theorems about them (proofs/); as code its figures, and the arithmetic of sequence numbers.
+// Document 01 as definitions (specs/) with the theorems about them (proofs/); as code its figures and numbers, and the arithmetic of sequence numbers.
 pub mod figures;
+pub mod numbers;
 pub mod sequence;

@@ -2,27 +2,31 @@
 // state is the one that came in.
 use crate::State;
 
-// begin, resume, pay, purge: the state after the call.
+// What begin, resume, pay and purge answer.
 #[repr(C)]
 pub struct Done {
     pub number: u32,
     pub state: State,
 }
 
-// tick: and how many bytes, written to the front of the room, are to be sent.
+// What tick answers.
 #[repr(C)]
 pub struct Sent {
     pub number: u32,
     pub state: State,
+    // Bytes to send, at the front of the room.
     pub length: usize,
 }
 
-// receive: and how many replies were omitted, as they did not fit, how many TLVs dropped.
+// What receive answers.
 #[repr(C)]
 pub struct Answer {
     pub number: u32,
     pub state: State,
+    // Bytes of the reply, at the front of the room.
     pub length: usize,
+    // Replies left out because the room is full; the peer asks again.
     pub omitted: u32,
+    // New peers and nodes dropped because there is no place for them.
     pub dropped: u32,
 }

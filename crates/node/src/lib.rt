@@ -11,20 +11,24 @@ use peers::Peers;
 use table::Table;
 use trickle::Trickle;
 
-// One of our endpoints: its Trickle state, and the reading from which the next request for network state may go out.
+// One of our endpoints.
 #[repr(C)]
 pub struct Endpoint {
     pub trickle: Trickle,
+    // The reading from which network state may be requested again.
     pub next: u64,
 }
 
-// The state that a call gets and leaves; node data stands in the lent table memory.
+// The state that a call gets and leaves. A host keeps it and need not look into it; node data stand in the lent table memory.
 #[repr(C)]
 pub struct State {
+    // Our identifier.
     pub own: u32,
+    // The last accepted reading of the clock.
     pub last: u64,
     pub table: Table,
     pub peers: Peers,
     pub endpoints: [Endpoint; MOST_ENDPOINTS],
+    // The network digest at that reading.
     pub digest: [u8; 16],
 }

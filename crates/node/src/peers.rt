@@ -8,16 +8,19 @@ ghost use Rattle.model.specs.Figures.{mostPeers};
 ghost use Rattle.model.specs.State.{isPeer, contacted};
 ghost use Rattle.node.specs.View.{peerOf, peersOf, PeersRep};
 
-// A peer: its node, its endpoint, ours, and the reading of the last contact.
+// A peer: a node on a link of ours.
 #[repr(C)]
 pub struct Peer {
     pub node: u32,
+    // Its endpoint.
     pub theirs: u32,
+    // Our endpoint.
     pub ours: u32,
+    // The reading of the last contact.
     pub contact: u64,
 }
 
-// The peers, in the order in which they came: the first `count` of the list.
+// The peers, in the order in which they came: the first count of the list.
 #[repr(C)]
 pub struct Peers {
     pub count: usize,

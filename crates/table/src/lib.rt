@@ -23,20 +23,24 @@ const SLOT: usize = DATA_LIMIT;
 // Slots: one for each node that can be held.
 const SLOTS: u16 = MOST_NODES as u16;
 
-// What is known of a node: its number, its age as taken, where its data stand, the reading when it was taken, and the digest of the data.
-// 40 bytes with no gap: a state holds 32 of these and is copied whole.
+// The fields of an entry leave no gap, 40 bytes in all: a state holds 32 of these and is copied whole.
+
+// What is held of one node. Its data are the len bytes from slot * DATA_LIMIT on in the table memory.
 #[repr(C)]
 pub struct Entry {
     pub id: u32,
+    // The sequence number.
     pub seq: u32,
+    // In milliseconds, at the reading since.
     pub age: u32,
     pub len: u16,
     pub slot: u16,
     pub since: u64,
+    // H of the data.
     pub hash: [u8; 16],
 }
 
-// The nodes held, ascending by identifier: the first `count` entries.
+// The nodes held, ascending by identifier: the first count entries.
 #[repr(C)]
 pub struct Table {
     pub count: usize,

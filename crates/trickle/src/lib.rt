@@ -9,13 +9,16 @@ ghost use Rattle.model.specs.Figures.{leastInterval, greatestInterval};
 ghost use Rattle.model.specs.Trickle.{fresh, hear, reset, pointDue, event};
 ghost use Rattle.trickle.specs.View.{trickleOf, eventOf, Small};
 
-// The interval began at `start`; the send point is start + point.
+// When an endpoint sends: at start + point, unless an equal digest was heard since start.
 #[repr(C)]
 pub struct Trickle {
+    // The reading at which the interval began.
     pub start: u64,
     pub point: u64,
     pub interval: u64,
+    // Equal digests heard in it.
     pub count: u32,
+    // The send point has passed.
     pub spent: bool,
 }
 

@@ -23,16 +23,16 @@ returns c =
     let a = s .args in
     let p = paymentOf (a .household) (a .receipt) (a .amount) in
     let x = c .before .of-household in
-    let e = x .ensures (stateOf (a .s) (a .mem .now)) (state-last (a .s) (a .mem .now)) in
+    let e = x .ensures (stateOf (a .state) (a .memory .now)) (state-last (a .state) (a .memory .now)) in
     let n = c .if1 .taken in
-    pay-no (a .s) (a .mem .now) (s .pre) (a .clock) (a .randoms .now) p (x .result) (e ∙ pay-early (a .s) (a .mem .now) (s .pre) (a .clock) (a .randoms .now) p (λ z. n (e ∙ z))) n
+    pay-no (a .state) (a .memory .now) (s .pre) (a .clock) (a .randoms .now) p (x .result) (e ∙ pay-early (a .state) (a .memory .now) (s .pre) (a .clock) (a .randoms .now) p (λ z. n (e ∙ z))) n
 
 refusal-requires : tie.Need-refusal-requires
 refusal-requires c κs =
     let s = c .before .before .before .before in
     let a = s .args in
     let x = c .before .before .of-household in
-    let e = x .ensures (stateOf (a .s) (a .mem .now)) (state-last (a .s) (a .mem .now)) in
+    let e = x .ensures (stateOf (a .state) (a .memory .now)) (state-last (a .state) (a .memory .now)) in
     let r = table-ready (s .pre) (a .clock) (noHousehold (a .household) ∷ []) (x .result) (omega arith) e (c .before .if1 .left) in
     (r .0, r .1 .0)
 
@@ -45,10 +45,10 @@ returns-2 c =
     let a = s .args in
     let p = paymentOf (a .household) (a .receipt) (a .amount) in
     let x = c .before .before .before .before .of-household in
-    let e = x .ensures (stateOf (a .s) (a .mem .now)) (state-last (a .s) (a .mem .now)) in
-    let l = pay-last (a .s) (a .mem .now) (s .pre) (a .clock) (a .randoms .now) p (sym e ∙ c .before .before .before .if1 .left) in
+    let e = x .ensures (stateOf (a .state) (a .memory .now)) (state-last (a .state) (a .memory .now)) in
+    let l = pay-last (a .state) (a .memory .now) (s .pre) (a .clock) (a .randoms .now) p (sym e ∙ c .before .before .before .if1 .left) in
     let n = rw (narrow-back w32 (a .amount) (s .fits .amount)) at (c .before .refusal .ensures) in
-    pay-no (a .s) (a .mem .now) (s .pre) (a .clock) (a .randoms .now) p (c .before .refusal .result) (n ∙ l) (c .if2 .taken)
+    pay-no (a .state) (a .memory .now) (s .pre) (a .clock) (a .randoms .now) p (c .before .refusal .result) (n ∙ l) (c .if2 .taken)
 
 pay-requires : tie.Need-pay-requires
 pay-requires c κs =
@@ -57,10 +57,10 @@ pay-requires c κs =
     let p = paymentOf (a .household) (a .receipt) (a .amount) in
     let b = narrow-back w32 (a .amount) (s .fits .amount) in
     let x = c .before .before .before .before .before .before .of-household in
-    let e = x .ensures (stateOf (a .s) (a .mem .now)) (state-last (a .s) (a .mem .now)) in
+    let e = x .ensures (stateOf (a .state) (a .memory .now)) (state-last (a .state) (a .memory .now)) in
     let r = table-ready (s .pre) (a .clock) (noHousehold (a .household) ∷ []) (x .result) (omega arith) e (c .before .before .before .before .before .if1 .left) in
     let n = rw b at (c .before .before .before .refusal .ensures) in
-    let q = pay-room (a .s) (a .mem .now) (s .pre) (a .clock) (a .randoms .now) p (sym n ∙ c .before .before .if2 .left) in
+    let q = pay-room (a .state) (a .memory .now) (s .pre) (a .clock) (a .randoms .now) p (sym n ∙ c .before .before .if2 .left) in
     rw b (r .0, (r .1 .0, (r .1 .1, q)))
 
 same-length-2 : tie.Need-same-length-2
@@ -75,11 +75,11 @@ returns-3 c =
     let x = c .before .before .before .before .before .before .before .before .before .of-household in
     let y = c .before .before .before .before .before .before .refusal in
     let t = c .before .before .pay in
-    let e = x .ensures (stateOf (a .s) (a .mem .now)) (state-last (a .s) (a .mem .now)) in
+    let e = x .ensures (stateOf (a .state) (a .memory .now)) (state-last (a .state) (a .memory .now)) in
     let z = c .before .before .before .before .before .before .before .before .if1 .left in
     let r = table-ready (s .pre) (a .clock) (noHousehold (a .household) ∷ []) (x .result) (omega arith) e z in
     let n = rw b at (y .ensures) in
-    pay-yes (a .s) (a .mem .now) (s .pre) (a .clock) (a .randoms .now) p (y .result) (n ∙ pay-last (a .s) (a .mem .now) (s .pre) (a .clock) (a .randoms .now) p (sym e ∙ z))
+    pay-yes (a .state) (a .memory .now) (s .pre) (a .clock) (a .randoms .now) p (y .result) (n ∙ pay-last (a .state) (a .memory .now) (s .pre) (a .clock) (a .randoms .now) p (sym e ∙ z))
     (t .result) (t .last .1 .0) (c .before .before .before .before .before .if2 .left) (r .0 .table .room) (rw b at (t .ensures))
 
 pub pingvratha-pay-spec : {M : Type 1} → statement M

@@ -16,15 +16,15 @@ returns : tie.Need-returns
 returns c =
     let s = c .before .before .before .before .before in
     let a = s .args in
-    receive-no (a .s) (a .mem .now) (a .room .now) (s .pre) (a .datagram .now) (a .clock) (a .endpoint) (a .unicast) (a .randoms .now) _
-    (c .before .of-datagram .ensures (stateOf (a .s) (a .mem .now)) (state-last (a .s) (a .mem .now))) (c .if1 .taken)
+    receive-no (a .state) (a .memory .now) (a .room .now) (s .pre) (a .datagram .now) (a .clock) (a .endpoint) (a .unicast) (a .randoms .now) _
+    (c .before .of-datagram .ensures (stateOf (a .state) (a .memory .now)) (state-last (a .state) (a .memory .now))) (c .if1 .taken)
 
 handle-requires : tie.Need-handle-requires
 handle-requires c κs =
     let s = c .before .before .before .before .before .before .before .before in
     let a = s .args in
-    let e = sym (c .before .before .before .before .of-datagram .ensures (stateOf (a .s) (a .mem .now)) (state-last (a .s) (a .mem .now))) ∙ c .before .before .before .if1 .left in
-    let f = receive-facts (a .s) (a .mem .now) (a .room .now) (s .pre) (a .datagram .now) (a .clock) (a .endpoint) (a .unicast) (a .randoms .now) e in
+    let e = sym (c .before .before .before .before .of-datagram .ensures (stateOf (a .state) (a .memory .now)) (state-last (a .state) (a .memory .now))) ∙ c .before .before .before .if1 .left in
+    let f = receive-facts (a .state) (a .memory .now) (a .room .now) (s .pre) (a .datagram .now) (a .clock) (a .endpoint) (a .unicast) (a .randoms .now) e in
     let g = f .0 in
     let r = ready (s .pre) (a .clock) (g .0, (g .1 .0, g .1 .1 .1 .0)) in
     (r .0, (r .1 .0, (g .0, (g .1 .1 .0 .0, (g .1 .1 .0 .1, (g .1 .1 .1 .1, f .1))))))
@@ -41,9 +41,9 @@ returns-2 c =
     let s = k .before .before .before in
     let a = s .args in
     let h = c .before .before .before .before .handle in
-    let e = sym (c .before .before .before .before .before .before .before .before .before .of-datagram .ensures (stateOf (a .s) (a .mem .now)) (state-last (a .s) (a .mem .now))) ∙ c .before .before .before .before .before .before .before .before .if1 .left in
-    let g = receive-facts (a .s) (a .mem .now) (a .room .now) (s .pre) (a .datagram .now) (a .clock) (a .endpoint) (a .unicast) (a .randoms .now) e .0 in
-    receive-yes (a .s) (a .mem .now) (a .room .now) (s .pre) (a .datagram .now) (a .clock) (a .endpoint) (a .unicast) (a .randoms .now)
+    let e = sym (c .before .before .before .before .before .before .before .before .before .of-datagram .ensures (stateOf (a .state) (a .memory .now)) (state-last (a .state) (a .memory .now))) ∙ c .before .before .before .before .before .before .before .before .if1 .left in
+    let g = receive-facts (a .state) (a .memory .now) (a .room .now) (s .pre) (a .datagram .now) (a .clock) (a .endpoint) (a .unicast) (a .randoms .now) e .0 in
+    receive-yes (a .state) (a .memory .now) (a .room .now) (s .pre) (a .datagram .now) (a .clock) (a .endpoint) (a .unicast) (a .randoms .now)
     (h .result) (h .last .1 .0) (h .last .1 .1 .0) e (g .1 .1 .1 .0) (g .1 .1 .1 .1) (bytes-known (a .datagram .now) (λ i. omega (arith, k .shared-slice-known .given i))) (h .ensures)
 
 pub pingvratha-receive-spec : {M : Type 1} → statement M

@@ -14,12 +14,12 @@ returns : tie.Need-returns
 returns c =
     let s = c .before .before .before .before in
     let a = s .args in
-    resume-no (a .s) (a .mem .now) (s .pre) (a .clock) (a .randoms .now) (a .bytes .now) (c .before .of-start .result) (c .before .of-start .ensures) (c .if1 .taken)
+    resume-no (a .state) (a .memory .now) (s .pre) (a .clock) (a .randoms .now) (a .snapshot .now) (c .before .of-start .result) (c .before .of-start .ensures) (c .if1 .taken)
 
 resume-requires : tie.Need-resume-requires
 resume-requires c κs =
     let a = c .before .before .before .before .before .before .args in
-    let f = start-accepted (a .clock) (length (a .mem .now)) (sym (c .before .before .before .of-start .ensures) ∙ c .before .before .if1 .left) in
+    let f = start-accepted (a .clock) (length (a .memory .now)) (sym (c .before .before .before .of-start .ensures) ∙ c .before .before .if1 .left) in
     (f .1, f .0)
 
 same-length : tie.Need-same-length
@@ -31,7 +31,7 @@ returns-2 c =
     let s = x .before .before .before .before .before .before .before in
     let a = s .args in
     let e = sym (x .before .before .before .before .of-start .ensures) ∙ x .before .before .before .if1 .left in
-    resume-unread (a .s) (a .mem .now) (s .pre) (a .clock) (a .randoms .now) (a .bytes .now) e (x .resume .result) (x .resume .last .1 .1 .0) (x .resume .ensures) (not-true _ (c .if2 .taken))
+    resume-unread (a .state) (a .memory .now) (s .pre) (a .clock) (a .randoms .now) (a .snapshot .now) e (x .resume .result) (x .resume .last .1 .1 .0) (x .resume .ensures) (not-true _ (c .if2 .taken))
 
 same-length-2 : tie.Need-same-length-2
 same-length-2 c = search needs
@@ -42,8 +42,8 @@ returns-3 c =
     let s = x .before .before .before .before .before .before .before in
     let a = s .args in
     let e = sym (x .before .before .before .before .of-start .ensures) ∙ x .before .before .before .if1 .left in
-    let f = start-accepted (a .clock) (length (a .mem .now)) e in
-    resume-yes (a .s) (a .mem .now) (s .pre) (a .clock) (a .randoms .now) (a .bytes .now) e (x .resume .result) (x .resume .last .1 .1 .0) (x .resume .ensures)
+    let f = start-accepted (a .clock) (length (a .memory .now)) e in
+    resume-yes (a .state) (a .memory .now) (s .pre) (a .clock) (a .randoms .now) (a .snapshot .now) e (x .resume .result) (x .resume .last .1 .1 .0) (x .resume .ensures)
     (not-false _ (c .if2 .left)) (f .1)
 
 pub pingvratha-resume-spec : {M : Type 1} → statement M

@@ -16,7 +16,7 @@ returns : tie.Need-returns
 returns c =
     let a = c .before .before .before .args in
     let n = c .before .of-table in
-    marks-refused (a .clock) (length (a .mem .now)) (a .s) (a .mem .now) (n .result) (n .ensures (stateOf (a .s) (a .mem .now)) (state-last (a .s) (a .mem .now))) (c .if1 .taken)
+    marks-refused (a .clock) (length (a .memory .now)) (a .state) (a .memory .now) (n .result) (n .ensures (stateOf (a .state) (a .memory .now)) (state-last (a .state) (a .memory .now))) (c .if1 .taken)
 
 reach-requires : tie.Need-reach-requires
 reach-requires c κs =
@@ -24,8 +24,8 @@ reach-requires c κs =
     let n = c .before .of-table in
     let p =
     table-ready (c .before .before .before .pre) (a .clock) [] (n .result) tt
-    (n .ensures (stateOf (a .s) (a .mem .now)) (state-last (a .s) (a .mem .now))) (c .if1 .left) in
-    midway-readable (a .clock) (a .s) (a .mem .now) (p .1 .0) (p .0) (p .1 .1)
+    (n .ensures (stateOf (a .state) (a .memory .now)) (state-last (a .state) (a .memory .now))) (c .if1 .left) in
+    midway-readable (a .clock) (a .state) (a .memory .now) (p .1 .0) (p .0) (p .1 .1)
 
 marked-nodes-requires : tie.Need-marked-nodes-requires
 marked-nodes-requires c κs = search needs
@@ -36,7 +36,7 @@ returns-2 c =
     let n = c .before .before .before .before .before .before .of-table in
     let x = c .before .before .before .before .reach in
     let r = c .before .marked-nodes in
-    marks-accepted (a .clock) (length (a .mem .now)) (a .s) (a .mem .now) (n .result) (n .ensures (stateOf (a .s) (a .mem .now)) (state-last (a .s) (a .mem .now)))
+    marks-accepted (a .clock) (length (a .memory .now)) (a .state) (a .memory .now) (n .result) (n .ensures (stateOf (a .state) (a .memory .now)) (state-last (a .state) (a .memory .now)))
     (x .result) (x .ensures) (r .result) (r .ensures) (c .before .before .before .before .before .if1 .left)
 
 pub pingvratha-marks-spec : {M : Type 1} → statement M

@@ -13,14 +13,14 @@ returns : tie.Need-returns
 returns c =
     let a = c .before .before .before .before .args in
     let n = c .before .of-save in
-    save-refused (a .clock) (length (a .mem .now)) (length (a .room .now)) (a .s) (a .mem .now) (n .result) (n .ensures (stateOf (a .s) (a .mem .now)) (state-last (a .s) (a .mem .now))) (a .room .now) (c .if1 .taken)
+    save-refused (a .clock) (length (a .memory .now)) (length (a .snapshot .now)) (a .state) (a .memory .now) (n .result) (n .ensures (stateOf (a .state) (a .memory .now)) (state-last (a .state) (a .memory .now))) (a .snapshot .now) (c .if1 .taken)
 
 save-requires : tie.Need-save-requires
 save-requires c κs =
     let s = c .before .before .before .before .before in
     let a = s .args in
     let n = c .before .before .of-save in
-    save-ready (a .clock) (length (a .room .now)) (n .result) (s .pre) (n .ensures (stateOf (a .s) (a .mem .now)) (state-last (a .s) (a .mem .now))) (c .before .if1 .left)
+    save-ready (a .clock) (length (a .snapshot .now)) (n .result) (s .pre) (n .ensures (stateOf (a .state) (a .memory .now)) (state-last (a .state) (a .memory .now))) (c .before .if1 .left)
 
 same-length : tie.Need-same-length
 same-length c = search needs
@@ -30,8 +30,8 @@ returns-2 c =
     let a = c .before .before .before .before .before .before .before .before .args in
     let n = c .before .before .before .before .before .of-save in
     let w = c .before .before .save in
-    save-accepted (a .clock) (length (a .mem .now)) (length (a .room .now)) (a .s) (a .mem .now) (n .result) (n .ensures (stateOf (a .s) (a .mem .now)) (state-last (a .s) (a .mem .now)))
-    (a .room .now) _ (w .result) (c .before .before .before .before .if1 .left) (w .ensures) (search needs)
+    save-accepted (a .clock) (length (a .memory .now)) (length (a .snapshot .now)) (a .state) (a .memory .now) (n .result) (n .ensures (stateOf (a .state) (a .memory .now)) (state-last (a .state) (a .memory .now)))
+    (a .snapshot .now) _ (w .result) (c .before .before .before .before .if1 .left) (w .ensures) (search needs)
 
 pub pingvratha-save-spec : {M : Type 1} → statement M
 pingvratha-save-spec = tie.close (tie.spec of-save-requires returns save-requires same-length returns-2)

@@ -5,7 +5,7 @@ use Rattle.ledger.proofs.look.pingvratha_show.Statement.{statement}
 use Rattle.ledger.proofs.look.pingvratha_show.Tie as tie
 
 returns : tie.Need-returns
-returns c = let a = c .before .before .args in shows-small (a .node) (a .s) (a .mem .now) (c .if1 .taken)
+returns c = let a = c .before .before .args in shows-small (a .node) (a .state) (a .memory .now) (c .if1 .taken)
 
 find-requires : tie.Need-find-requires
 find-requires c κs = search needs
@@ -18,7 +18,7 @@ meta-at-requires c κs =
     let a = c .before .before .before .before .before .before .args in
     let f = c .before .before .before .find in
     let g = c .before .found .given in
-    (c .before .before .before .before .before .before .pre .arranged, stands-of (a .s .table) (a .node) (g .0 .0) (f .result) (g .1) (f .ensures) .at)
+    (c .before .before .before .before .before .before .pre .arranged, stands-of (a .state .table) (a .node) (g .0 .0) (f .result) (g .1) (f .ensures) .at)
 
 cast-len : tie.Need-cast-len
 cast-len c = search needs
@@ -36,16 +36,16 @@ returns-2 c =
     let g = c .before .before .before .before .found .given in
     let e = c .before .before .meta-at in
     let b = c .start-of in
-    shows-found (a .node) (a .s) (a .mem .now) (c .before .before .before .before .before .before .before .before .before .pre) (c .before .before .before .before .before .before .before .if1 .left) (g .0 .0)
-    (stands-of (a .s .table) (a .node) (g .0 .0) (f .result) (g .1) (f .ensures)) (e .result) (e .ensures) (b .result) (b .ensures)
+    shows-found (a .node) (a .state) (a .memory .now) (c .before .before .before .before .before .before .before .before .before .pre) (c .before .before .before .before .before .before .before .if1 .left) (g .0 .0)
+    (stands-of (a .state .table) (a .node) (g .0 .0) (f .result) (g .1) (f .ensures)) (e .result) (e .ensures) (b .result) (b .ensures)
 
 returns-3 : tie.Need-returns-3
 returns-3 c =
     let a = c .before .before .before .before .before .args in
     let f = c .before .before .find in
     let g = c .enum-told .given in
-    shows-missing (a .node) (a .s) (a .mem .now) (c .before .before .before .before .before .pre) (c .before .before .before .if1 .left) (g .0 .0)
-    (gap-of (a .s .table) (a .node) (g .0 .0) (f .result) (g .1) (f .ensures))
+    shows-missing (a .node) (a .state) (a .memory .now) (c .before .before .before .before .before .pre) (c .before .before .before .if1 .left) (g .0 .0)
+    (gap-of (a .state .table) (a .node) (g .0 .0) (f .result) (g .1) (f .ensures))
 
 pub pingvratha-show-spec : {M : Type 1} → statement M
 pingvratha-show-spec =

@@ -17,20 +17,20 @@ returns : tie.Need-returns
 returns c =
     let a = c .before .before .before .args in
     let n = c .before .of-household in
-    total-refused (a .clock) (length (a .mem .now)) (a .s) (a .mem .now) (n .result) (a .household) (n .ensures (stateOf (a .s) (a .mem .now)) (state-last (a .s) (a .mem .now))) (c .if1 .taken)
+    total-refused (a .clock) (length (a .memory .now)) (a .state) (a .memory .now) (n .result) (a .household) (n .ensures (stateOf (a .state) (a .memory .now)) (state-last (a .state) (a .memory .now))) (c .if1 .taken)
 
 summed-requires : tie.Need-summed-requires
 summed-requires c κs =
     let a = c .before .before .before .args in
     let n = c .before .of-household in
     table-ready (c .before .before .before .pre) (a .clock) (noHousehold (a .household) ∷ []) (n .result) ((λ z. omega (arith, z)), tt)
-    (n .ensures (stateOf (a .s) (a .mem .now)) (state-last (a .s) (a .mem .now))) (c .if1 .left)
+    (n .ensures (stateOf (a .state) (a .memory .now)) (state-last (a .state) (a .memory .now))) (c .if1 .left)
 
 returns-2 : tie.Need-returns-2
 returns-2 c =
     let a = c .before .before .before .before .args in
     let n = c .before .before .of-household in
-    total-accepted (a .clock) (length (a .mem .now)) (a .s) (a .mem .now) (n .result) (a .household) (n .ensures (stateOf (a .s) (a .mem .now)) (state-last (a .s) (a .mem .now)))
+    total-accepted (a .clock) (length (a .memory .now)) (a .state) (a .memory .now) (n .result) (a .household) (n .ensures (stateOf (a .state) (a .memory .now)) (state-last (a .state) (a .memory .now)))
     (c .summed .result) (c .before .if1 .left) (c .summed .ensures)
 
 pub pingvratha-total-spec : {M : Type 1} → statement M
