@@ -11,7 +11,7 @@ void pingvratha_sha256(const uint8_t *message, size_t length, uint8_t digest[32]
 
 enum { DATA = 1024, CALLS = 2000, ROUNDS = 31 };
 
-static uint8_t table[32768], room[4096], datagram[32 + DATA];
+static uint8_t table[PINGVRATHA_TABLE_BYTES], room[PINGVRATHA_MOST_BYTES], datagram[32 + DATA];
 static pingvratha_state state;
 static uint32_t number;
 

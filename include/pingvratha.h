@@ -1,221 +1,603 @@
-/* Pingvratha: a ledger node (DNCP, RFC 7787) whose every call is proved. Link libledger.a.
+/* A ledger node (DNCP, RFC 7787) whose every call is proved. Where a language has no slices, one
+ * is a pointer, which is not null, and a length.
  *
  * The library owns nothing: no memory, no clock, no radio, no random numbers. A host
  *
- *  - starts from pingvratha_blank, and hands each call the state and the table memory just as the
- *    last call left them. That is the one premise of the proofs. It holds for refused calls too,
- *    so nothing has to be checked before a call;
- *  - lends 32,768 bytes of table memory to every call, 4,096 bytes of room to receive and tick, and
- *    33,319 bytes of room to save. More is fine, less is refused with 4. Buffers lent to one call
- *    don't overlap;
- *  - gives one random number for each of the four endpoints with every call that changes state, new
- *    ones each time;
- *  - gives the clock in milliseconds, never lower than before;
- *  - ticks every endpoint, 1 to 4, again and again, some ten times a second: the shortest interval
- *    between two sendings is 200 ms. What a tick writes goes out by multicast on that endpoint;
- *  - hands each datagram to receive. What it writes goes back by unicast to where the datagram
- *    came from, on the same endpoint;
- *  - saves after each accepted payment before anything is sent, and keeps that snapshot over a loss
- *    of power. A node that resumes from an older one takes the payments since back everywhere.
+ * - starts from the blank state, and hands each call the state and the table memory just as the
+ *   last call left them. That is the one premise of the proofs. It   holds for refused calls
+ *   too, so nothing has to be checked before a call;
+ * - lends PINGVRATHA_TABLE_BYTES of table memory to every call, PINGVRATHA_MOST_BYTES of room to
+ *   receive and tick, PINGVRATHA_SNAPSHOT_BYTES to save. More is fine, less is refused with
+ *   PINGVRATHA_BUFFER_TOO_SMALL. Buffers lent to one call don't overlap;
+ * - gives each box an identifier of its own: two boxes with one identifier replace each other's
+ *   payments;
+ * - gives one random number for each endpoint with every call that changes state, new ones each
+ *   time;
+ * - gives the clock in milliseconds, never lower than before;
+ * - ticks every endpoint, 1 to PINGVRATHA_MOST_ENDPOINTS, again and again, some ten times a
+ *   second: the shortest interval between two sendings is PINGVRATHA_LEAST_INTERVAL. What a
+ *   tick writes goes out by multicast on that endpoint;
+ * - hands each datagram to receive, with the endpoint that it came on and whether it came by
+ *   unicast. What receive writes goes back by unicast to where the   datagram came from, on the
+ *   same endpoint;
+ * - saves after each accepted payment before anything is sent, and keeps that snapshot over a
+ *   loss of power. A node that resumes from an older one takes the   payments since back
+ *   everywhere.
  *
- * The first field of an answer is a number: 0 for an accepted call, else why it is refused, and the
- * first number in this order that applies. A refused call gives 0 in all other fields, hands back
- * the state that came in, and writes to no buffer. Of an accepted call, the bytes of a buffer beyond
+ * An answer's number is 0 for an accepted call, else why it is refused: the first in the order
+ * given with each call that applies. A refused call gives 0 in all other fields, hands back the
+ * state that came in, and writes to no buffer. Of an accepted call, the bytes of a buffer beyond
  * what is written stay.
  *
- *    1  clock above 2^62 - 1
- *    2  clock below the last accepted reading
- *    3  endpoint not 1 to 4
- *    4  a lent buffer is too small
- *    5  datagram over 4,096 bytes
- *    6  datagram is not a row of whole TLVs with zero padding
- *    7  household outside 1 to 9,999
- *    8  this very payment stands in our data already
- *    9  the payment doesn't fit in our 1,024 bytes
- *   10  no such node in the table
- *   11  not a snapshot
+ * A node is a box, a snapshot its saved book. A node is reachable when a chain of nodes that
+ * name each other as peers leads from ours to it.
  *
- * A node is a box, a snapshot its saved book. A node is reachable when a chain of nodes that name
- * each other as peers leads from ours to it.
- */
+ * Written by tools/bindings from the Rattle source. Link libpingvratha.a. */
 #ifndef PINGVRATHA_H
 #define PINGVRATHA_H
+
+#if !defined(__x86_64__) || !defined(__linux__)
+#error "pingvratha: the library is built for x86-64 Linux"
+#endif
 
 #include <stdbool.h>
 #include <stddef.h>
 #include <stdint.h>
 
-/* ---- The state. A host keeps it and need not look into it. */
+#ifdef __cplusplus
+extern "C" {
+#endif
 
-/* When an endpoint sends: at start + point, unless an equal digest was heard since start. */
-typedef struct {
-    uint64_t start;
-    uint64_t point;
-    uint64_t interval;
-    uint32_t count; /* equal digests heard */
-    bool spent;     /* the send point has passed */
-} pingvratha_trickle;
+#define PINGVRATHA_VERSION "0.3.0"
+#define PINGVRATHA_VERSION_MAJOR 0
+#define PINGVRATHA_VERSION_MINOR 3
+#define PINGVRATHA_VERSION_PATCH 0
 
-typedef struct {
-    pingvratha_trickle trickle;
-    uint64_t next; /* the reading from which network state may be requested again */
-} pingvratha_endpoint;
+/* ---- The figures of document 01. */
 
-/* What is held of one node. Its data are the len bytes from slot * 1,024 on in the table memory. */
-typedef struct {
+/* Nodes held, with our own. */
+#define PINGVRATHA_MOST_NODES 32
+
+/* Bytes of node data that are accepted, and held of each node. */
+#define PINGVRATHA_DATA_LIMIT 1024
+
+/* Bytes that our own data may come to by publishing more. */
+#define PINGVRATHA_PUBLISH_LIMIT 1024
+
+/* Bytes of table memory: a slot for each node. */
+#define PINGVRATHA_TABLE_BYTES 32768
+
+/* Endpoints, numbered from 1 on. */
+#define PINGVRATHA_MOST_ENDPOINTS 4
+
+/* Peers over all endpoints. */
+#define PINGVRATHA_MOST_PEERS 16
+
+/* Bytes of a datagram at most, of what is sent at most, and of the room lent for it. */
+#define PINGVRATHA_MOST_BYTES 4096
+
+/* Bytes of a snapshot at most, and of what is lent for it. */
+#define PINGVRATHA_SNAPSHOT_BYTES 33319
+
+/* The last reading of the clock, in milliseconds. */
+#define PINGVRATHA_LAST_READING UINT64_C(4611686018427387903)
+
+/* Trickle's shortest interval, in milliseconds. */
+#define PINGVRATHA_LEAST_INTERVAL UINT64_C(200)
+
+/* Trickle's longest interval. */
+#define PINGVRATHA_GREATEST_INTERVAL UINT64_C(25600)
+
+/* Trickle's redundancy constant: so many equal digests heard make sending needless. */
+#define PINGVRATHA_REDUNDANCY 1
+
+/* Where the count of equal digests stays. */
+#define PINGVRATHA_MOST_COUNT 255
+
+/* A request for network state goes out at most once in so many milliseconds on an endpoint. */
+#define PINGVRATHA_REQUEST_GAP UINT64_C(200)
+
+/* A node this old leads no further. */
+#define PINGVRATHA_AGE_LIMIT UINT64_C(4294934528)
+
+/* Our data are published anew at this age. */
+#define PINGVRATHA_REFRESH_AGE UINT64_C(4294901760)
+
+/* The largest age that is sent or saved. */
+#define PINGVRATHA_MOST_AGE UINT64_C(4294967295)
+
+/* The interval of a peer that publishes no Keep-Alive TLV for its endpoint. */
+#define PINGVRATHA_USUAL_INTERVAL UINT64_C(20000)
+
+/* What a reclaimed sequence number gains. */
+#define PINGVRATHA_RECLAIM_STEP 1000
+
+/* Bytes of a Peer TLV. */
+#define PINGVRATHA_PEER_BYTES 16
+
+/* The first household. */
+#define PINGVRATHA_LEAST_HOUSEHOLD 1
+
+/* The last household. */
+#define PINGVRATHA_MOST_HOUSEHOLD 9999
+
+/* ---- The number of an answer, in the words of document 01. */
+
+typedef enum pingvratha_number {
+    PINGVRATHA_ACCEPTED = 0, /* accepted */
+    PINGVRATHA_CLOCK_TOO_HIGH = 1, /* clock above 2^62 - 1 */
+    PINGVRATHA_CLOCK_BACK = 2, /* clock below the last accepted reading */
+    PINGVRATHA_NO_SUCH_ENDPOINT = 3, /* endpoint not 1 to 4 */
+    PINGVRATHA_BUFFER_TOO_SMALL = 4, /* a lent buffer is below its figure */
+    PINGVRATHA_DATAGRAM_TOO_LONG = 5, /* datagram over 4,096 bytes */
+    PINGVRATHA_DATAGRAM_MALFORMED = 6, /* datagram is not a row of whole TLVs with zero padding */
+    PINGVRATHA_NO_SUCH_HOUSEHOLD = 7, /* household outside 1 to 9,999 */
+    PINGVRATHA_PAID_ALREADY = 8, /* this very payment stands in our data already */
+    PINGVRATHA_DATA_FULL = 9, /* the payment doesn't fit in our 1,024 bytes */
+    PINGVRATHA_NO_SUCH_NODE = 10, /* no such box in the table */
+    PINGVRATHA_NOT_A_SNAPSHOT = 11 /* not a saved book */
+} pingvratha_number;
+
+/* These words. */
+static inline const char *pingvratha_words(uint32_t number) {
+    switch (number) {
+    case PINGVRATHA_ACCEPTED: return "accepted";
+    case PINGVRATHA_CLOCK_TOO_HIGH: return "clock above 2^62 - 1";
+    case PINGVRATHA_CLOCK_BACK: return "clock below the last accepted reading";
+    case PINGVRATHA_NO_SUCH_ENDPOINT: return "endpoint not 1 to 4";
+    case PINGVRATHA_BUFFER_TOO_SMALL: return "a lent buffer is below its figure";
+    case PINGVRATHA_DATAGRAM_TOO_LONG: return "datagram over 4,096 bytes";
+    case PINGVRATHA_DATAGRAM_MALFORMED: return "datagram is not a row of whole TLVs with zero padding";
+    case PINGVRATHA_NO_SUCH_HOUSEHOLD: return "household outside 1 to 9,999";
+    case PINGVRATHA_PAID_ALREADY: return "this very payment stands in our data already";
+    case PINGVRATHA_DATA_FULL: return "the payment doesn't fit in our 1,024 bytes";
+    case PINGVRATHA_NO_SUCH_NODE: return "no such box in the table";
+    case PINGVRATHA_NOT_A_SNAPSHOT: return "not a saved book";
+    default: return "no such number";
+    }
+}
+
+/* ---- The state. */
+
+/* What is held of one node. Its data are the len bytes from slot * PINGVRATHA_DATA_LIMIT on in
+ * the table memory. */
+typedef struct pingvratha_entry {
     uint32_t id;
-    uint32_t seq;
+    uint32_t seq; /* the sequence number */
     uint32_t age; /* in milliseconds, at the reading since */
     uint16_t len;
     uint16_t slot;
     uint64_t since;
-    uint8_t hash[16];
+    uint8_t hash[16]; /* H of the data */
 } pingvratha_entry;
 
-/* The first count entries, ascending by identifier. */
-typedef struct {
+/* The nodes held, ascending by identifier: the first count entries. */
+typedef struct pingvratha_table {
     size_t count;
-    pingvratha_entry entries[32];
+    pingvratha_entry entries[PINGVRATHA_MOST_NODES];
 } pingvratha_table;
 
-typedef struct {
+/* A peer: a node on a link of ours. */
+typedef struct pingvratha_peer {
     uint32_t node;
     uint32_t theirs; /* its endpoint */
-    uint32_t ours;   /* our endpoint */
-    uint64_t contact;
+    uint32_t ours; /* our endpoint */
+    uint64_t contact; /* the reading of the last contact */
 } pingvratha_peer;
 
-/* The first count peers, in the order in which they came. */
-typedef struct {
+/* The peers, in the order in which they came: the first count of the list. */
+typedef struct pingvratha_peers {
     size_t count;
-    pingvratha_peer list[16];
+    pingvratha_peer list[PINGVRATHA_MOST_PEERS];
 } pingvratha_peers;
 
-typedef struct {
-    uint32_t own;  /* our identifier */
+/* When an endpoint sends: at start + point, unless an equal digest was heard since start. */
+typedef struct pingvratha_trickle {
+    uint64_t start; /* the reading at which the interval began */
+    uint64_t point;
+    uint64_t interval;
+    uint32_t count; /* equal digests heard in it */
+    bool spent; /* the send point has passed */
+} pingvratha_trickle;
+
+/* One of our endpoints. */
+typedef struct pingvratha_endpoint {
+    pingvratha_trickle trickle;
+    uint64_t next; /* the reading from which network state may be requested again */
+} pingvratha_endpoint;
+
+/* The state that a call gets and leaves. A host keeps it and need not look into it; node data
+ * stand in the lent table memory. */
+typedef struct pingvratha_state {
+    uint32_t own; /* our identifier */
     uint64_t last; /* the last accepted reading of the clock */
     pingvratha_table table;
     pingvratha_peers peers;
-    pingvratha_endpoint endpoints[4];
-    uint8_t digest[16]; /* network digest at that reading */
+    pingvratha_endpoint endpoints[PINGVRATHA_MOST_ENDPOINTS];
+    uint8_t digest[16]; /* the network digest at that reading */
 } pingvratha_state;
 
 /* ---- The answers. */
 
-typedef struct {
+/* What begin, resume, pay and purge answer. */
+typedef struct pingvratha_done {
     uint32_t number;
     pingvratha_state state;
 } pingvratha_done;
 
-typedef struct {
+/* What receive answers. */
+typedef struct pingvratha_answer {
+    uint32_t number;
+    pingvratha_state state;
+    size_t length; /* bytes of the reply, at the front of the room */
+    uint32_t omitted; /* replies left out because the room is full; the peer asks again */
+    uint32_t dropped; /* new peers and nodes dropped because there is no place for them */
+} pingvratha_answer;
+
+/* What tick answers. */
+typedef struct pingvratha_sent {
     uint32_t number;
     pingvratha_state state;
     size_t length; /* bytes to send, at the front of the room */
 } pingvratha_sent;
 
-typedef struct {
+/* What total and sum answer. */
+typedef struct pingvratha_summed {
     uint32_t number;
-    pingvratha_state state;
-    size_t length;    /* bytes of the reply, at the front of the room */
-    uint32_t omitted; /* replies left out because the room is full */
-    uint32_t dropped; /* new peers and nodes dropped because we have no place for them */
-} pingvratha_answer;
-
-typedef struct {
-    uint32_t number;
-    int64_t value;   /* cents */
+    int64_t value; /* cents */
     uint32_t unread; /* payments of reachable nodes that can't be read, of whatever household */
 } pingvratha_summed;
 
-typedef struct {
+/* What marks answers. */
+typedef struct pingvratha_marked {
     uint32_t number;
     size_t count;
-    uint32_t nodes[32]; /* the first count: identifiers of the reachable nodes, ascending */
-    uint8_t digest[16]; /* network digest */
+    /* The first count are the identifiers of the reachable nodes, ascending; the others are 0. */
+    uint32_t nodes[PINGVRATHA_MOST_NODES];
+    uint8_t digest[16]; /* the network digest */
 } pingvratha_marked;
 
-typedef struct {
+/* What save answers. */
+typedef struct pingvratha_saved {
     uint32_t number;
-    size_t length; /* bytes of the snapshot, at the front of the room */
+    size_t length; /* bytes of the snapshot, at the front of what was lent for it */
 } pingvratha_saved;
 
-/* A part of the table memory. */
-typedef struct {
+/* What show answers: a part of the table memory. */
+typedef struct pingvratha_extent {
     size_t start;
     size_t length;
 } pingvratha_extent;
 
 /* ---- Calls that change state. */
 
-/* The state to start from, with any table memory: node 0 begun at reading 0. Never refused. */
+/* The state to start from, with whatever table memory: node 0, begun at reading 0 with random
+ * numbers 0.
+ *
+ * Never refused. */
 pingvratha_state pingvratha_blank(void);
 
-/* Begins with our node alone: empty data, sequence number 0, no peers. Also over a running node and
- * at an earlier reading; all that was held is gone. Refused with 1 4. */
+/* Begins with our node alone: empty data, sequence number 0, no peers. Also over a running node
+ * and at an earlier reading; all that was held is gone.
+ *
+ * Refusals in order: PINGVRATHA_CLOCK_TOO_HIGH, PINGVRATHA_BUFFER_TOO_SMALL. */
 pingvratha_done pingvratha_begin(
-    pingvratha_state state, const uint8_t *memory, size_t memory_length,
-    uint32_t own, uint64_t clock, const uint32_t randoms[4]);
+    pingvratha_state state, const uint8_t *memory, size_t memory_length, uint32_t own,
+    uint64_t clock, const uint32_t randoms[PINGVRATHA_MOST_ENDPOINTS]);
 
-/* Goes on from a snapshot, at whatever reading. Our peers are unknown at first, and we publish our
- * data anew. Refused with 1 4 11. */
+/* Goes on from a snapshot, at whatever reading. Our peers are unknown at first, so that only our
+ * own node is reachable, and our data are published anew.
+ *
+ * Refusals in order: PINGVRATHA_CLOCK_TOO_HIGH, PINGVRATHA_BUFFER_TOO_SMALL,
+ * PINGVRATHA_NOT_A_SNAPSHOT. */
 pingvratha_done pingvratha_resume(
-    pingvratha_state state, uint8_t *memory, size_t memory_length,
-    const uint8_t *snapshot, size_t snapshot_length, uint64_t clock, const uint32_t randoms[4]);
+    pingvratha_state state, uint8_t *memory, size_t memory_length, const uint8_t *snapshot,
+    size_t snapshot_length, uint64_t clock, const uint32_t randoms[PINGVRATHA_MOST_ENDPOINTS]);
 
 /* Takes in a datagram that came on the endpoint, by unicast or else by multicast, and writes the
- * reply to the room; length 0 means that there is none. Refused with 1 2 3 4 5 6. */
+ * reply to the front of the room; length 0 means that there is none.
+ *
+ * Refusals in order: PINGVRATHA_CLOCK_TOO_HIGH, PINGVRATHA_CLOCK_BACK,
+ * PINGVRATHA_NO_SUCH_ENDPOINT, PINGVRATHA_BUFFER_TOO_SMALL, PINGVRATHA_DATAGRAM_TOO_LONG,
+ * PINGVRATHA_DATAGRAM_MALFORMED. */
 pingvratha_answer pingvratha_receive(
-    pingvratha_state state, uint8_t *memory, size_t memory_length,
-    uint8_t *room, size_t room_length, const uint8_t *datagram, size_t datagram_length,
-    uint64_t clock, uint32_t endpoint, bool unicast, const uint32_t randoms[4]);
+    pingvratha_state state, uint8_t *memory, size_t memory_length, uint8_t *room,
+    size_t room_length, const uint8_t *datagram, size_t datagram_length, uint64_t clock,
+    uint32_t endpoint, bool unicast, const uint32_t randoms[PINGVRATHA_MOST_ENDPOINTS]);
 
-/* Does what is due on the endpoint: removes peers that fell silent, publishes our data anew before
- * it is too old, and writes what is to be sent to the room, if anything. At one reading a second tick
- * may still have something to do, a third never. Refused with 1 2 3 4. */
+/* Does what is due on the endpoint: removes peers that fell silent, publishes our data anew
+ * before it is too old, and writes what is to be sent to the front of the room; length 0 means
+ * that there is nothing. At one reading a second tick may still have something to do, a third
+ * never.
+ *
+ * Refusals in order: PINGVRATHA_CLOCK_TOO_HIGH, PINGVRATHA_CLOCK_BACK,
+ * PINGVRATHA_NO_SUCH_ENDPOINT, PINGVRATHA_BUFFER_TOO_SMALL. */
 pingvratha_sent pingvratha_tick(
-    pingvratha_state state, uint8_t *memory, size_t memory_length,
-    uint8_t *room, size_t room_length, uint64_t clock, uint32_t endpoint,
-    const uint32_t randoms[4]);
+    pingvratha_state state, uint8_t *memory, size_t memory_length, uint8_t *room,
+    size_t room_length, uint64_t clock, uint32_t endpoint,
+    const uint32_t randoms[PINGVRATHA_MOST_ENDPOINTS]);
 
 /* Puts a payment, in cents, into our data and publishes it. Save before anything is sent.
- * Refused with 1 2 4 7 8 9. */
+ *
+ * Refusals in order: PINGVRATHA_CLOCK_TOO_HIGH, PINGVRATHA_CLOCK_BACK,
+ * PINGVRATHA_BUFFER_TOO_SMALL, PINGVRATHA_NO_SUCH_HOUSEHOLD, PINGVRATHA_PAID_ALREADY,
+ * PINGVRATHA_DATA_FULL. */
 pingvratha_done pingvratha_pay(
-    pingvratha_state state, uint8_t *memory, size_t memory_length,
-    uint64_t clock, uint32_t household, uint32_t receipt, int32_t amount,
-    const uint32_t randoms[4]);
+    pingvratha_state state, uint8_t *memory, size_t memory_length, uint64_t clock,
+    uint32_t household, uint32_t receipt, int32_t amount,
+    const uint32_t randoms[PINGVRATHA_MOST_ENDPOINTS]);
 
-/* Drops every node that is not reachable, which makes place for others. Refused with 1 2 4. */
+/* Drops every node that is not reachable, its payments with it, which makes place for others.
+ * What is reachable again later comes again.
+ *
+ * Refusals in order: PINGVRATHA_CLOCK_TOO_HIGH, PINGVRATHA_CLOCK_BACK,
+ * PINGVRATHA_BUFFER_TOO_SMALL. */
 pingvratha_done pingvratha_purge(
-    pingvratha_state state, const uint8_t *memory, size_t memory_length,
-    uint64_t clock, const uint32_t randoms[4]);
+    pingvratha_state state, const uint8_t *memory, size_t memory_length, uint64_t clock,
+    const uint32_t randoms[PINGVRATHA_MOST_ENDPOINTS]);
 
-/* ---- Calls that show or sum. They change nothing, the last reading included. */
+/* ---- Calls that show, sum or save. They change nothing, the last reading included. */
 
-/* The total of a household over all reachable nodes. Refused with 1 2 4 7. */
+/* The total of a household over all reachable nodes.
+ *
+ * Refusals in order: PINGVRATHA_CLOCK_TOO_HIGH, PINGVRATHA_CLOCK_BACK,
+ * PINGVRATHA_BUFFER_TOO_SMALL, PINGVRATHA_NO_SUCH_HOUSEHOLD. */
 pingvratha_summed pingvratha_total(
-    pingvratha_state state, const uint8_t *memory, size_t memory_length,
-    uint64_t clock, uint32_t household);
+    pingvratha_state state, const uint8_t *memory, size_t memory_length, uint64_t clock,
+    uint32_t household);
 
-/* The sum over all households. Refused with 1 2 4. */
+/* The sum over all households.
+ *
+ * Refusals in order: PINGVRATHA_CLOCK_TOO_HIGH, PINGVRATHA_CLOCK_BACK,
+ * PINGVRATHA_BUFFER_TOO_SMALL. */
 pingvratha_summed pingvratha_sum(
     pingvratha_state state, const uint8_t *memory, size_t memory_length, uint64_t clock);
 
-/* The reachable nodes, whose payments are summed, and the network digest. Refused with 1 2 4. */
+/* The reachable nodes, whose payments are summed, and the network digest.
+ *
+ * Refusals in order: PINGVRATHA_CLOCK_TOO_HIGH, PINGVRATHA_CLOCK_BACK,
+ * PINGVRATHA_BUFFER_TOO_SMALL. */
 pingvratha_marked pingvratha_marks(
     pingvratha_state state, const uint8_t *memory, size_t memory_length, uint64_t clock);
 
-/* Writes a snapshot of all nodes held to the room. Refused with 1 2 4. */
+/* Writes a snapshot of all nodes held to the front of what is lent for it.
+ *
+ * Refusals in order: PINGVRATHA_CLOCK_TOO_HIGH, PINGVRATHA_CLOCK_BACK,
+ * PINGVRATHA_BUFFER_TOO_SMALL. */
 pingvratha_saved pingvratha_save(
-    pingvratha_state state, const uint8_t *memory, size_t memory_length,
-    uint8_t *room, size_t room_length, uint64_t clock);
+    pingvratha_state state, const uint8_t *memory, size_t memory_length, uint8_t *snapshot,
+    size_t snapshot_length, uint64_t clock);
 
 /* Where a node's data stand in the table memory, reachable or not. Length 0 for empty data, and
- * for a refusal, whose number the next call gives. */
+ * for a refusal, whose number pingvratha_show_refusal gives.
+ *
+ * Refusals in order: PINGVRATHA_BUFFER_TOO_SMALL, PINGVRATHA_NO_SUCH_NODE. */
 pingvratha_extent pingvratha_show(
     pingvratha_state state, const uint8_t *memory, size_t memory_length, uint32_t node);
 
-/* The number of pingvratha_show with the same arguments: 0, 4 or 10. */
+/* The number of show with the same arguments; 0 where the data are shown.
+ *
+ * Refusals in order: PINGVRATHA_BUFFER_TOO_SMALL, PINGVRATHA_NO_SUCH_NODE. */
 uint32_t pingvratha_show_refusal(
     pingvratha_state state, const uint8_t *memory, size_t memory_length, uint32_t node);
+
+/* ---- A node: the same calls, which keep the state by themselves and whose buffers have the right
+ * size by their types. It starts with pingvratha_node_blank, and nothing but these calls writes to
+ * it. They answer what the plain calls answer, without the state. */
+
+/* State and table memory of one node. */
+typedef struct pingvratha_node {
+    pingvratha_state state;
+    uint8_t memory[PINGVRATHA_TABLE_BYTES];
+} pingvratha_node;
+
+/* What receive and tick of a node write to. */
+typedef struct pingvratha_room {
+    uint8_t bytes[PINGVRATHA_MOST_BYTES];
+} pingvratha_room;
+
+/* What save of a node writes to. */
+typedef struct pingvratha_snapshot {
+    uint8_t bytes[PINGVRATHA_SNAPSHOT_BYTES];
+} pingvratha_snapshot;
+
+/* What receive of a node answers. */
+typedef struct pingvratha_node_answer {
+    uint32_t number;
+    size_t length; /* bytes of the reply, at the front of the room */
+    uint32_t omitted; /* replies left out because the room is full; the peer asks again */
+    uint32_t dropped; /* new peers and nodes dropped because there is no place for them */
+} pingvratha_node_answer;
+
+/* What tick of a node answers. */
+typedef struct pingvratha_node_sent {
+    uint32_t number;
+    size_t length; /* bytes to send, at the front of the room */
+} pingvratha_node_sent;
+
+/* As pingvratha_blank, and keeps the state. */
+static inline void pingvratha_node_blank(pingvratha_node *self) {
+    self->state = pingvratha_blank();
+}
+
+/* As pingvratha_begin, and keeps the state. */
+static inline uint32_t pingvratha_node_begin(
+    pingvratha_node *self, uint32_t own, uint64_t clock,
+    const uint32_t randoms[PINGVRATHA_MOST_ENDPOINTS]) {
+    pingvratha_done answer = pingvratha_begin(
+        self->state, self->memory, sizeof self->memory, own, clock, randoms);
+    self->state = answer.state;
+    return answer.number;
+}
+
+/* As pingvratha_resume, and keeps the state. */
+static inline uint32_t pingvratha_node_resume(
+    pingvratha_node *self, const uint8_t *snapshot, size_t snapshot_length, uint64_t clock,
+    const uint32_t randoms[PINGVRATHA_MOST_ENDPOINTS]) {
+    pingvratha_done answer = pingvratha_resume(
+        self->state, self->memory, sizeof self->memory, snapshot, snapshot_length, clock, randoms);
+    self->state = answer.state;
+    return answer.number;
+}
+
+/* As pingvratha_receive, and keeps the state. */
+static inline pingvratha_node_answer pingvratha_node_receive(
+    pingvratha_node *self, pingvratha_room *room, const uint8_t *datagram, size_t datagram_length,
+    uint64_t clock, uint32_t endpoint, bool unicast,
+    const uint32_t randoms[PINGVRATHA_MOST_ENDPOINTS]) {
+    pingvratha_answer answer = pingvratha_receive(
+        self->state, self->memory, sizeof self->memory, room->bytes, sizeof room->bytes, datagram,
+        datagram_length, clock, endpoint, unicast, randoms);
+    self->state = answer.state;
+    pingvratha_node_answer rest;
+    rest.number = answer.number;
+    rest.length = answer.length;
+    rest.omitted = answer.omitted;
+    rest.dropped = answer.dropped;
+    return rest;
+}
+
+/* As pingvratha_tick, and keeps the state. */
+static inline pingvratha_node_sent pingvratha_node_tick(
+    pingvratha_node *self, pingvratha_room *room, uint64_t clock, uint32_t endpoint,
+    const uint32_t randoms[PINGVRATHA_MOST_ENDPOINTS]) {
+    pingvratha_sent answer = pingvratha_tick(
+        self->state, self->memory, sizeof self->memory, room->bytes, sizeof room->bytes, clock,
+        endpoint, randoms);
+    self->state = answer.state;
+    pingvratha_node_sent rest;
+    rest.number = answer.number;
+    rest.length = answer.length;
+    return rest;
+}
+
+/* As pingvratha_pay, and keeps the state. */
+static inline uint32_t pingvratha_node_pay(
+    pingvratha_node *self, uint64_t clock, uint32_t household, uint32_t receipt, int32_t amount,
+    const uint32_t randoms[PINGVRATHA_MOST_ENDPOINTS]) {
+    pingvratha_done answer = pingvratha_pay(
+        self->state, self->memory, sizeof self->memory, clock, household, receipt, amount, randoms);
+    self->state = answer.state;
+    return answer.number;
+}
+
+/* As pingvratha_purge, and keeps the state. */
+static inline uint32_t pingvratha_node_purge(
+    pingvratha_node *self, uint64_t clock, const uint32_t randoms[PINGVRATHA_MOST_ENDPOINTS]) {
+    pingvratha_done answer = pingvratha_purge(
+        self->state, self->memory, sizeof self->memory, clock, randoms);
+    self->state = answer.state;
+    return answer.number;
+}
+
+/* As pingvratha_total. */
+static inline pingvratha_summed pingvratha_node_total(
+    const pingvratha_node *self, uint64_t clock, uint32_t household) {
+    return pingvratha_total(self->state, self->memory, sizeof self->memory, clock, household);
+}
+
+/* As pingvratha_sum. */
+static inline pingvratha_summed pingvratha_node_sum(const pingvratha_node *self, uint64_t clock) {
+    return pingvratha_sum(self->state, self->memory, sizeof self->memory, clock);
+}
+
+/* As pingvratha_marks. */
+static inline pingvratha_marked pingvratha_node_marks(const pingvratha_node *self, uint64_t clock) {
+    return pingvratha_marks(self->state, self->memory, sizeof self->memory, clock);
+}
+
+/* As pingvratha_save. */
+static inline pingvratha_saved pingvratha_node_save(
+    const pingvratha_node *self, pingvratha_snapshot *snapshot, uint64_t clock) {
+    return pingvratha_save(
+        self->state, self->memory, sizeof self->memory, snapshot->bytes, sizeof snapshot->bytes,
+        clock);
+}
+
+/* As pingvratha_show. */
+static inline pingvratha_extent pingvratha_node_show(const pingvratha_node *self, uint32_t node) {
+    return pingvratha_show(self->state, self->memory, sizeof self->memory, node);
+}
+
+/* As pingvratha_show_refusal. */
+static inline uint32_t pingvratha_node_show_refusal(const pingvratha_node *self, uint32_t node) {
+    return pingvratha_show_refusal(self->state, self->memory, sizeof self->memory, node);
+}
+
+/* ---- Where a layout is not the library's, this does not compile. */
+
+#define PINGVRATHA_SAME(name, is, wanted) \
+    typedef char pingvratha_same_##name[(is) == (wanted) ? 1 : -1]
+
+PINGVRATHA_SAME(size_t, sizeof(size_t), 8);
+PINGVRATHA_SAME(entry, sizeof(pingvratha_entry), 40);
+PINGVRATHA_SAME(entry_id, offsetof(pingvratha_entry, id), 0);
+PINGVRATHA_SAME(entry_seq, offsetof(pingvratha_entry, seq), 4);
+PINGVRATHA_SAME(entry_age, offsetof(pingvratha_entry, age), 8);
+PINGVRATHA_SAME(entry_len, offsetof(pingvratha_entry, len), 12);
+PINGVRATHA_SAME(entry_slot, offsetof(pingvratha_entry, slot), 14);
+PINGVRATHA_SAME(entry_since, offsetof(pingvratha_entry, since), 16);
+PINGVRATHA_SAME(entry_hash, offsetof(pingvratha_entry, hash), 24);
+PINGVRATHA_SAME(table, sizeof(pingvratha_table), 1288);
+PINGVRATHA_SAME(table_count, offsetof(pingvratha_table, count), 0);
+PINGVRATHA_SAME(table_entries, offsetof(pingvratha_table, entries), 8);
+PINGVRATHA_SAME(peer, sizeof(pingvratha_peer), 24);
+PINGVRATHA_SAME(peer_node, offsetof(pingvratha_peer, node), 0);
+PINGVRATHA_SAME(peer_theirs, offsetof(pingvratha_peer, theirs), 4);
+PINGVRATHA_SAME(peer_ours, offsetof(pingvratha_peer, ours), 8);
+PINGVRATHA_SAME(peer_contact, offsetof(pingvratha_peer, contact), 16);
+PINGVRATHA_SAME(peers, sizeof(pingvratha_peers), 392);
+PINGVRATHA_SAME(peers_count, offsetof(pingvratha_peers, count), 0);
+PINGVRATHA_SAME(peers_list, offsetof(pingvratha_peers, list), 8);
+PINGVRATHA_SAME(trickle, sizeof(pingvratha_trickle), 32);
+PINGVRATHA_SAME(trickle_start, offsetof(pingvratha_trickle, start), 0);
+PINGVRATHA_SAME(trickle_point, offsetof(pingvratha_trickle, point), 8);
+PINGVRATHA_SAME(trickle_interval, offsetof(pingvratha_trickle, interval), 16);
+PINGVRATHA_SAME(trickle_count, offsetof(pingvratha_trickle, count), 24);
+PINGVRATHA_SAME(trickle_spent, offsetof(pingvratha_trickle, spent), 28);
+PINGVRATHA_SAME(endpoint, sizeof(pingvratha_endpoint), 40);
+PINGVRATHA_SAME(endpoint_trickle, offsetof(pingvratha_endpoint, trickle), 0);
+PINGVRATHA_SAME(endpoint_next, offsetof(pingvratha_endpoint, next), 32);
+PINGVRATHA_SAME(state, sizeof(pingvratha_state), 1872);
+PINGVRATHA_SAME(state_own, offsetof(pingvratha_state, own), 0);
+PINGVRATHA_SAME(state_last, offsetof(pingvratha_state, last), 8);
+PINGVRATHA_SAME(state_table, offsetof(pingvratha_state, table), 16);
+PINGVRATHA_SAME(state_peers, offsetof(pingvratha_state, peers), 1304);
+PINGVRATHA_SAME(state_endpoints, offsetof(pingvratha_state, endpoints), 1696);
+PINGVRATHA_SAME(state_digest, offsetof(pingvratha_state, digest), 1856);
+PINGVRATHA_SAME(done, sizeof(pingvratha_done), 1880);
+PINGVRATHA_SAME(done_number, offsetof(pingvratha_done, number), 0);
+PINGVRATHA_SAME(done_state, offsetof(pingvratha_done, state), 8);
+PINGVRATHA_SAME(answer, sizeof(pingvratha_answer), 1896);
+PINGVRATHA_SAME(answer_number, offsetof(pingvratha_answer, number), 0);
+PINGVRATHA_SAME(answer_state, offsetof(pingvratha_answer, state), 8);
+PINGVRATHA_SAME(answer_length, offsetof(pingvratha_answer, length), 1880);
+PINGVRATHA_SAME(answer_omitted, offsetof(pingvratha_answer, omitted), 1888);
+PINGVRATHA_SAME(answer_dropped, offsetof(pingvratha_answer, dropped), 1892);
+PINGVRATHA_SAME(sent, sizeof(pingvratha_sent), 1888);
+PINGVRATHA_SAME(sent_number, offsetof(pingvratha_sent, number), 0);
+PINGVRATHA_SAME(sent_state, offsetof(pingvratha_sent, state), 8);
+PINGVRATHA_SAME(sent_length, offsetof(pingvratha_sent, length), 1880);
+PINGVRATHA_SAME(summed, sizeof(pingvratha_summed), 24);
+PINGVRATHA_SAME(summed_number, offsetof(pingvratha_summed, number), 0);
+PINGVRATHA_SAME(summed_value, offsetof(pingvratha_summed, value), 8);
+PINGVRATHA_SAME(summed_unread, offsetof(pingvratha_summed, unread), 16);
+PINGVRATHA_SAME(marked, sizeof(pingvratha_marked), 160);
+PINGVRATHA_SAME(marked_number, offsetof(pingvratha_marked, number), 0);
+PINGVRATHA_SAME(marked_count, offsetof(pingvratha_marked, count), 8);
+PINGVRATHA_SAME(marked_nodes, offsetof(pingvratha_marked, nodes), 16);
+PINGVRATHA_SAME(marked_digest, offsetof(pingvratha_marked, digest), 144);
+PINGVRATHA_SAME(saved, sizeof(pingvratha_saved), 16);
+PINGVRATHA_SAME(saved_number, offsetof(pingvratha_saved, number), 0);
+PINGVRATHA_SAME(saved_length, offsetof(pingvratha_saved, length), 8);
+PINGVRATHA_SAME(extent, sizeof(pingvratha_extent), 16);
+PINGVRATHA_SAME(extent_start, offsetof(pingvratha_extent, start), 0);
+PINGVRATHA_SAME(extent_length, offsetof(pingvratha_extent, length), 8);
+
+#undef PINGVRATHA_SAME
+
+#ifdef __cplusplus
+}
+#endif
 
 #endif

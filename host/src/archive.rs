@@ -1,9 +1,15 @@
-//! The archive as a node that a session runs on. After each call it is checked that what has to
-//! stay has stayed: of every lent buffer, of the memory behind it, and of the state.
+//! The archive's plain calls as a node that a session runs on. After each call it is checked that
+//! what has to stay has stayed: of every lent buffer, of the memory behind it, and of the state.
+//!
+//! Safety: state and memory are private to [`Archive`], start blank, and only the calls write to
+//! them. So each call gets them as the last one left them.
 
-use crate::ffi::{self, stack, State};
-use reference::calls::{Calls, EndpointView, NodeView, Rooms, View};
-use reference::node::{Marks, Peer, Randoms, Received, Summed, Written, TABLE_ROOM};
+use crate::compare::Checked;
+use crate::stack;
+use crate::view::view_of;
+use pingvratha::plain::{self, Entry, State};
+use reference::calls::{Calls, Rooms, View};
+use reference::node::{Marks, Randoms, Received, Summed, Written, TABLE_ROOM};
 use reference::script::ROOMS_MAX;
 use reference::wire::{Payment, MAX_DATA};
 use std::cell::{Cell, RefCell};
@@ -37,16 +43,12 @@ impl Archive {
 
     fn new(depths: Depths) -> Archive {
         Archive {
-            state: depths.of("blank", ffi::blank),
+            state: depths.of("blank", plain::blank),
             memory: vec![0xa5; ROOMS_MAX.table + BEHIND],
             depths,
             fault: Cell::new(None),
             fill: Cell::new(0),
         }
-    }
-
-    pub fn fault(&self) -> Option<&'static str> {
-        self.fault.get()
     }
 
     /// For each call made, the most bytes of stack that it used.
@@ -112,7 +114,7 @@ fn in_range(state: &State) -> bool {
     let mut slots: Vec<u16> = entries.iter().map(|entry| entry.slot).collect();
     slots.sort_unstable();
     slots.dedup();
-    let readable = |entry: &ffi::Entry| entry.slot < 32 && usize::from(entry.len) <= MAX_DATA;
+    let readable = |entry: &Entry| entry.slot < 32 && usize::from(entry.len) <= MAX_DATA;
     slots.len() == table.count
         && entries.iter().all(readable)
         && state.peers.count <= state.peers.list.len()
@@ -156,13 +158,19 @@ impl Depths {
     }
 }
 
+impl Checked for Archive {
+    fn fault(&self) -> Option<&'static str> {
+        self.fault.get()
+    }
+}
+
 impl Calls for Archive {
     fn begin(&mut self, rooms: &Rooms, own: u32, clock: u64, randoms: &Randoms) -> u32 {
         let before = self.memory.clone();
         let (state, memory) = (&self.state, &self.memory[..rooms.table]);
-        let done = self
-            .depths
-            .of("begin", || ffi::begin(state, memory, own, clock, randoms));
+        let done = self.depths.of("begin", || unsafe {
+            plain::begin(state, memory, own, clock, randoms)
+        });
         self.expect_memory(&before, 0);
         self.take(done.number, done.state);
         done.number
@@ -171,8 +179,8 @@ impl Calls for Archive {
     fn resume(&mut self, rooms: &Rooms, bytes: &[u8], clock: u64, randoms: &Randoms) -> u32 {
         let before = self.memory.clone();
         let (state, memory) = (&self.state, &mut self.memory[..rooms.table]);
-        let done = self.depths.of("resume", || {
-            ffi::resume(state, memory, bytes, clock, randoms)
+        let done = self.depths.of("resume", || unsafe {
+            plain::resume(state, memory, bytes, clock, randoms)
         });
         self.settle(done.number, done.state, &before);
         done.number
@@ -191,8 +199,8 @@ impl Calls for Archive {
         let mut room = self.room(rooms.reply);
         let (state, memory) = (&self.state, &mut self.memory[..rooms.table]);
         let (lent, unicast) = (room.lent(), !multicast);
-        let answer = self.depths.of("receive", || {
-            ffi::receive(
+        let answer = self.depths.of("receive", || unsafe {
+            plain::receive(
                 state, memory, lent, datagram, clock, endpoint, unicast, randoms,
             )
         });
@@ -210,8 +218,8 @@ impl Calls for Archive {
         let mut room = self.room(rooms.reply);
         let (state, memory) = (&self.state, &mut self.memory[..rooms.table]);
         let lent = room.lent();
-        let sent = self.depths.of("tick", || {
-            ffi::tick(state, memory, lent, clock, endpoint, randoms)
+        let sent = self.depths.of("tick", || unsafe {
+            plain::tick(state, memory, lent, clock, endpoint, randoms)
         });
         self.settle(sent.number, sent.state, &before);
         Written {
@@ -222,10 +230,15 @@ impl Calls for Archive {
 
     fn pay(&mut self, rooms: &Rooms, clock: u64, payment: &Payment, randoms: &Randoms) -> u32 {
         let before = self.memory.clone();
+        let Payment {
+            household,
+            receipt,
+            amount,
+        } = *payment;
         let (state, memory) = (&self.state, &mut self.memory[..rooms.table]);
-        let done = self
-            .depths
-            .of("pay", || ffi::pay(state, memory, clock, payment, randoms));
+        let done = self.depths.of("pay", || unsafe {
+            plain::pay(state, memory, clock, household, receipt, amount, randoms)
+        });
         self.settle(done.number, done.state, &before);
         done.number
     }
@@ -233,9 +246,9 @@ impl Calls for Archive {
     fn purge(&mut self, rooms: &Rooms, clock: u64, randoms: &Randoms) -> u32 {
         let before = self.memory.clone();
         let (state, memory) = (&self.state, &self.memory[..rooms.table]);
-        let done = self
-            .depths
-            .of("purge", || ffi::purge(state, memory, clock, randoms));
+        let done = self.depths.of("purge", || unsafe {
+            plain::purge(state, memory, clock, randoms)
+        });
         self.expect_memory(&before, 0);
         self.take(done.number, done.state);
         done.number
@@ -244,9 +257,9 @@ impl Calls for Archive {
     fn total(&self, rooms: &Rooms, clock: u64, household: u32) -> Summed {
         let before = self.memory.clone();
         let (state, memory) = (&self.state, &self.memory[..rooms.table]);
-        let summed = self
-            .depths
-            .of("total", || ffi::total(state, memory, clock, household));
+        let summed = self.depths.of("total", || unsafe {
+            plain::total(state, memory, clock, household)
+        });
         self.expect_memory(&before, 0);
         summed_of(&summed)
     }
@@ -254,7 +267,9 @@ impl Calls for Archive {
     fn sum(&self, rooms: &Rooms, clock: u64) -> Summed {
         let before = self.memory.clone();
         let (state, memory) = (&self.state, &self.memory[..rooms.table]);
-        let summed = self.depths.of("sum", || ffi::sum(state, memory, clock));
+        let summed = self
+            .depths
+            .of("sum", || unsafe { plain::sum(state, memory, clock) });
         self.expect_memory(&before, 0);
         summed_of(&summed)
     }
@@ -262,7 +277,9 @@ impl Calls for Archive {
     fn marks(&self, rooms: &Rooms, clock: u64) -> Marks {
         let before = self.memory.clone();
         let (state, memory) = (&self.state, &self.memory[..rooms.table]);
-        let marked = self.depths.of("marks", || ffi::marks(state, memory, clock));
+        let marked = self
+            .depths
+            .of("marks", || unsafe { plain::marks(state, memory, clock) });
         self.expect_memory(&before, 0);
         let empty = marked.count == 0 && marked.nodes == [0; 32] && marked.digest == [0; 16];
         self.expect(
@@ -282,9 +299,9 @@ impl Calls for Archive {
         let before = self.memory.clone();
         let mut room = self.room(rooms.snapshot);
         let (state, memory, lent) = (&self.state, &self.memory[..rooms.table], room.lent());
-        let saved = self
-            .depths
-            .of("save", || ffi::save(state, memory, lent, clock));
+        let saved = self.depths.of("save", || unsafe {
+            plain::save(state, memory, lent, clock)
+        });
         self.expect_memory(&before, 0);
         Written {
             refusal: saved.number,
@@ -295,10 +312,12 @@ impl Calls for Archive {
     fn show(&self, rooms: &Rooms, node: u32) -> Written {
         let before = self.memory.clone();
         let (state, memory) = (&self.state, &self.memory[..rooms.table]);
-        let extent = self.depths.of("show", || ffi::show(state, memory, node));
-        let refusal = self
+        let extent = self
             .depths
-            .of("show_refusal", || ffi::show_refusal(state, memory, node));
+            .of("show", || unsafe { plain::show(state, memory, node) });
+        let refusal = self.depths.of("show_refusal", || unsafe {
+            plain::show_refusal(state, memory, node)
+        });
         self.expect_memory(&before, 0);
         let empty = extent.start == 0 && extent.length == 0;
         self.expect(refusal == 0 || empty, "a refused part is not empty");
@@ -313,59 +332,17 @@ impl Calls for Archive {
     }
 
     fn view(&self) -> View<'_> {
-        let state = &self.state;
-        let entries = &state.table.entries[..state.table.count];
-        let peers = &state.peers.list[..state.peers.count];
-        View {
-            own: state.own,
-            last: state.last,
-            digest: state.digest,
-            nodes: entries.iter().map(|entry| self.node_view(entry)).collect(),
-            peers: peers.iter().map(peer_of).collect(),
-            endpoints: state.endpoints.map(|endpoint| endpoint_view(&endpoint)),
-        }
+        view_of(&self.state, |entry| {
+            let at = usize::from(entry.slot) * MAX_DATA;
+            &self.memory[at..][..usize::from(entry.len)]
+        })
     }
 }
 
-impl Archive {
-    fn node_view(&self, entry: &ffi::Entry) -> NodeView<'_> {
-        let at = usize::from(entry.slot) * MAX_DATA;
-        NodeView {
-            node: entry.id,
-            seq: entry.seq,
-            age: u64::from(entry.age),
-            since: entry.since,
-            data: &self.memory[at..at + usize::from(entry.len)],
-            digest: entry.hash,
-        }
-    }
-}
-
-fn summed_of(summed: &ffi::Summed) -> Summed {
+fn summed_of(summed: &plain::Summed) -> Summed {
     Summed {
         refusal: summed.number,
         value: summed.value,
         unreadable: summed.unread as usize,
-    }
-}
-
-fn peer_of(peer: &ffi::Peer) -> Peer {
-    Peer {
-        node: peer.node,
-        theirs: peer.theirs,
-        ours: peer.ours,
-        contact: peer.contact,
-    }
-}
-
-fn endpoint_view(endpoint: &ffi::Endpoint) -> EndpointView {
-    let trickle = &endpoint.trickle;
-    EndpointView {
-        start: trickle.start,
-        point: trickle.point,
-        interval: trickle.interval,
-        count: trickle.count,
-        spent: trickle.spent,
-        next_request: endpoint.next,
     }
 }

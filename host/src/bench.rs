@@ -6,8 +6,9 @@
 mod network;
 
 use crate::archive::Archive;
-use crate::ffi::{self, State};
+use crate::compare::Checked;
 use network::{equal_states, passed_over, statements, Line, CLOCK, HOUSEHOLD, RANDOMS};
+use pingvratha::{Room, SnapshotRoom, MOST_BYTES, SNAPSHOT_BYTES};
 use reference::calls::{Calls, Rooms};
 use reference::generate;
 use reference::node::{Node, REPLY_ROOM, TABLE_ROOM};
@@ -82,61 +83,46 @@ impl Side for Node {
     }
 }
 
-/// The archive's node and what its host lends.
+/// The library's node and what its host lends.
 #[derive(Clone)]
 struct Ours {
-    state: State,
-    memory: Vec<u8>,
-    room: Vec<u8>,
+    node: pingvratha::Node,
+    room: Room,
+    book: SnapshotRoom,
 }
 
 impl Ours {
     fn blank() -> Ours {
         Ours {
-            state: ffi::blank(),
-            memory: vec![0; TABLE_ROOM],
-            room: vec![0; SNAPSHOT_ROOM],
+            node: pingvratha::Node::new(),
+            room: [0; MOST_BYTES],
+            book: [0; SNAPSHOT_BYTES],
         }
     }
 }
 
 impl Side for Ours {
     fn receive(&mut self, datagram: &[u8], clock: u64, multicast: bool) {
-        let Ours {
-            state,
-            memory,
-            room,
-        } = self;
-        let answer = ffi::receive(
-            state, memory, room, datagram, clock, 1, !multicast, &RANDOMS,
-        );
-        self.state = answer.state;
-        black_box(answer.length);
+        let Ours { node, room, .. } = self;
+        let reply = node.receive(room, datagram, clock, 1, !multicast, &RANDOMS);
+        assert!(black_box(reply).is_ok());
     }
 
     fn tick(&mut self, clock: u64, endpoint: u32) {
-        let Ours {
-            state,
-            memory,
-            room,
-        } = self;
-        let sent = ffi::tick(state, memory, room, clock, endpoint, &RANDOMS);
-        self.state = sent.state;
-        black_box(sent.length);
+        let sent = self.node.tick(&mut self.room, clock, endpoint, &RANDOMS);
+        assert!(black_box(sent).is_ok());
     }
 
     fn resume(&mut self, snapshot: &[u8], clock: u64) {
-        let done = ffi::resume(&self.state, &mut self.memory, snapshot, clock, &RANDOMS);
-        assert_eq!(done.number, 0);
-        self.state = done.state;
+        assert_eq!(self.node.resume(snapshot, clock, &RANDOMS), Ok(()));
     }
 
     fn total(&mut self, clock: u64) {
-        black_box(ffi::total(&self.state, &self.memory, clock, HOUSEHOLD));
+        assert!(black_box(self.node.total(clock, HOUSEHOLD)).is_ok());
     }
 
     fn save(&mut self, clock: u64) {
-        black_box(ffi::save(&self.state, &self.memory, &mut self.room, clock));
+        assert!(black_box(self.node.save(&mut self.book, clock)).is_ok());
     }
 }
 
@@ -153,8 +139,8 @@ impl Sides {
         let (mut ours, mut theirs) = (Ours::blank(), Node::blank());
         join(&mut ours, &snapshot);
         join(&mut theirs, &snapshot);
-        let reachable = ffi::marks(&ours.state, &ours.memory, CLOCK).count;
-        assert_eq!(reachable, line.length);
+        let marks = ours.node.marks(CLOCK).expect("nothing is refused here");
+        assert_eq!(marks.nodes().len(), line.length);
         assert_eq!(theirs.reachable(CLOCK).len(), line.length);
         Sides {
             ours,

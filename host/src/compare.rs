@@ -1,6 +1,7 @@
 //! Made-up sessions on the archive and on the reference, call by call.
 
 use crate::archive::Archive;
+use crate::owned::Owned;
 use reference::calls::{Calls, View};
 use reference::generate;
 use reference::script::{parse, state_text, Line, Session};
@@ -23,16 +24,24 @@ pub fn compare(seed: u64, count: usize) -> Result<(), String> {
     Ok(())
 }
 
-/// Counts the calls that are equal.
+/// A node that tells what was not as it has to be, the first such thing.
+pub trait Checked: Calls {
+    fn fault(&self) -> Option<&'static str>;
+}
+
+/// Counts the calls that are equal: each on the plain calls and on the safe node.
 fn compare_script(script: &str, compared: &mut usize) -> Result<(), String> {
-    let mut theirs = Session::default();
-    let mut ours = Session::new(Archive::blank());
+    let (mut plain, mut owned) = (Pair::new(Archive::blank()), Pair::new(Owned::default()));
     for (index, text) in script.lines().enumerate() {
         let Some(line) = parse(text) else {
             continue;
         };
-        compare_line(&mut ours, &mut theirs, &line)
-            .map_err(|difference| format!("line {}:\n{text}\n{difference}", index + 1))?;
+        let at_line = |difference| format!("line {}:\n{text}\n{difference}", index + 1);
+        plain.compare(&line).map_err(at_line)?;
+        if !matches!(line, Line::Rooms(_)) {
+            let of_node = |difference| at_line(format!("on a node\n{difference}"));
+            owned.compare(&line).map_err(of_node)?;
+        }
         if !matches!(line, Line::Rooms(_) | Line::State) {
             *compared += 1;
         }
@@ -40,24 +49,35 @@ fn compare_script(script: &str, compared: &mut usize) -> Result<(), String> {
     Ok(())
 }
 
-fn compare_line(
-    ours: &mut Session<Archive>,
-    theirs: &mut Session,
-    line: &Line,
-) -> Result<(), String> {
-    let (got, expected) = (ours.run(line), theirs.run(line));
-    let outputs = format!("archive:   {got}reference: {expected}");
-    if let Some(fault) = ours.node.fault() {
-        return Err(format!("{outputs}fault of the archive: {fault}"));
+/// The same session on the archive and on the reference.
+struct Pair<T> {
+    ours: Session<T>,
+    theirs: Session,
+}
+
+impl<T: Checked> Pair<T> {
+    fn new(node: T) -> Pair<T> {
+        Pair {
+            ours: Session::new(node),
+            theirs: Session::default(),
+        }
     }
-    if got != expected {
-        return Err(outputs);
+
+    fn compare(&mut self, line: &Line) -> Result<(), String> {
+        let (got, expected) = (self.ours.run(line), self.theirs.run(line));
+        let outputs = format!("archive:   {got}reference: {expected}");
+        if let Some(fault) = self.ours.node.fault() {
+            return Err(format!("{outputs}fault of the archive: {fault}"));
+        }
+        if got != expected {
+            return Err(outputs);
+        }
+        let (ours, theirs) = (self.ours.node.view(), self.theirs.node.view());
+        if ours != theirs {
+            return Err(outputs + &difference(&ours, &theirs));
+        }
+        Ok(())
     }
-    let (ours, theirs) = (ours.node.view(), theirs.node.view());
-    if ours != theirs {
-        return Err(outputs + &difference(&ours, &theirs));
-    }
-    Ok(())
 }
 
 /// Both states, without the lines that they have in common.

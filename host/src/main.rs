@@ -3,13 +3,17 @@
 
 #![deny(unsafe_code)]
 
+#[allow(unsafe_code)]
 mod archive;
 mod bench;
 mod compare;
+mod owned;
 #[allow(unsafe_code)]
-mod ffi;
+mod stack;
+mod view;
 
 use archive::Archive;
+use compare::Checked;
 use reference::script::Session;
 use std::io::{self, BufWriter};
 use std::process::ExitCode;

@@ -1,0 +1,111 @@
+//! Two nodes in one process: they meet and come level, one takes a payment and saves it, loses
+//! power and goes on. Prints what host/level.c prints.
+
+use pingvratha::{
+    Node, Randoms, Refusal, Room, SnapshotRoom, MOST_BYTES, MOST_ENDPOINTS, SNAPSHOT_BYTES,
+};
+
+/// A link between endpoint 1 of one node and endpoint 1 of the other.
+struct Link {
+    nodes: [Node; 2],
+    /// What each node writes to.
+    rooms: [Room; 2],
+    reading: u64,
+    seed: u32,
+}
+
+impl Link {
+    /// Numbers that look random, and are the same in each run.
+    fn draw(&mut self) -> Randoms {
+        std::array::from_fn(|_| {
+            self.seed = self.seed.wrapping_mul(1664525).wrapping_add(1013904223);
+            self.seed
+        })
+    }
+
+    /// A datagram to a node, its reply to the other, and so on until there is none.
+    fn deliver(&mut self, mut to: usize, mut datagram: Vec<u8>) -> Result<(), Refusal> {
+        let mut unicast = false;
+        while !datagram.is_empty() {
+            let randoms = self.draw();
+            let (node, room) = (&mut self.nodes[to], &mut self.rooms[to]);
+            let reply = node.receive(room, &datagram, self.reading, 1, unicast, &randoms)?;
+            datagram = reply.bytes.to_vec();
+            (to, unicast) = (1 - to, true);
+        }
+        Ok(())
+    }
+
+    /// A twentieth of a second passes.
+    fn pass(&mut self) -> Result<(), Refusal> {
+        self.reading += 50;
+        for from in 0..2 {
+            for endpoint in 1..=MOST_ENDPOINTS as u32 {
+                let randoms = self.draw();
+                let (node, room) = (&mut self.nodes[from], &mut self.rooms[from]);
+                let sent = node.tick(room, self.reading, endpoint, &randoms)?.to_vec();
+                if endpoint == 1 {
+                    self.deliver(1 - from, sent)?;
+                }
+            }
+        }
+        Ok(())
+    }
+
+    /// Both reach both, and hold the same.
+    fn is_level(&self) -> Result<bool, Refusal> {
+        let [ours, theirs] = &self.nodes;
+        let marks = ours.marks(self.reading)?;
+        Ok(marks.nodes().len() == 2 && marks == theirs.marks(self.reading)?)
+    }
+
+    fn come_level(&mut self) -> Result<(), Refusal> {
+        let start = self.reading;
+        while !self.is_level()? {
+            self.pass()?;
+        }
+        println!("level after {} ms", self.reading - start);
+        Ok(())
+    }
+
+    fn print_total(&self, at: usize) -> Result<(), Refusal> {
+        let total = self.nodes[at].total(self.reading, 17)?;
+        let own = self.nodes[at].state().own;
+        println!("box {own}: household 17 has {} cents", total.value);
+        Ok(())
+    }
+}
+
+fn main() -> Result<(), Refusal> {
+    let mut link = Link {
+        nodes: [Node::new(), Node::new()],
+        rooms: [[0; MOST_BYTES]; 2],
+        reading: 1000,
+        seed: 1,
+    };
+    for (at, own) in [(0, 7), (1, 8)] {
+        let randoms = link.draw();
+        link.nodes[at].begin(own, link.reading, &randoms)?;
+    }
+    link.come_level()?;
+
+    let randoms = link.draw();
+    link.nodes[0].pay(link.reading, 17, 4711, 1250, &randoms)?;
+    let mut book: SnapshotRoom = [0; SNAPSHOT_BYTES];
+    let kept = link.nodes[0].save(&mut book, link.reading)?;
+    println!("paid, and saved in {} bytes", kept.len());
+    let randoms = link.draw();
+    let again = link.nodes[0].pay(link.reading, 17, 4711, 1250, &randoms);
+    if let Err(refusal) = again {
+        println!("paid again: {refusal}");
+    }
+    link.come_level()?;
+    link.print_total(1)?;
+
+    link.nodes[0] = Node::new();
+    let randoms = link.draw();
+    link.nodes[0].resume(kept, link.reading, &randoms)?;
+    link.print_total(0)?;
+    link.come_level()?;
+    link.print_total(1)
+}

@@ -1,0 +1,18 @@
+#![doc = include_str!("../README.md")]
+#![no_std]
+#![deny(missing_docs, unsafe_op_in_unsafe_fn)]
+
+mod node;
+pub mod plain;
+mod refusal;
+
+pub use node::{Marks, Node, Randoms, Reply, Room, SnapshotRoom, Total};
+pub use plain::{
+    Refusal, DATA_LIMIT, LAST_READING, LEAST_HOUSEHOLD, MOST_BYTES, MOST_ENDPOINTS, MOST_HOUSEHOLD,
+    MOST_NODES, MOST_PEERS, PUBLISH_LIMIT, SNAPSHOT_BYTES, TABLE_BYTES,
+};
+
+/// The example in the README of the whole.
+#[cfg(doctest)]
+#[doc = include_str!("../../../README.md")]
+struct Whole;
