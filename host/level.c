@@ -13,11 +13,12 @@ static pingvratha_room rooms[2];
 static uint64_t reading = 1000;
 
 /* Numbers that look random, and are the same in each run. */
-static const uint32_t *draw(void) {
-    static uint32_t seed = 1, randoms[PINGVRATHA_MOST_ENDPOINTS];
+static pingvratha_randoms draw(void) {
+    static uint32_t seed = 1;
+    pingvratha_randoms randoms;
     for (int i = 0; i < PINGVRATHA_MOST_ENDPOINTS; i++) {
         seed = seed * 1664525u + 1013904223u;
-        randoms[i] = seed;
+        randoms.numbers[i] = seed;
     }
     return randoms;
 }

@@ -381,15 +381,20 @@ pingvratha_extent pingvratha_show(
 uint32_t pingvratha_show_refusal(
     pingvratha_state state, const uint8_t *memory, size_t memory_length, uint32_t node);
 
-/* ---- A node: the same calls, which keep the state by themselves and whose buffers have the right
- * size by their types. It starts with pingvratha_node_blank, and nothing but these calls writes to
- * it. They answer what the plain calls answer, without the state. */
+/* ---- A node: the same calls, which keep the state by themselves; what is lent has the right size by
+ * its type. A node starts with pingvratha_node_blank, and nothing but these calls writes to it. They
+ * answer what the plain calls answer, without the state. */
 
 /* State and table memory of one node. */
 typedef struct pingvratha_node {
     pingvratha_state state;
     uint8_t memory[PINGVRATHA_TABLE_BYTES];
 } pingvratha_node;
+
+/* The randoms of a call, one for each endpoint. */
+typedef struct pingvratha_randoms {
+    uint32_t numbers[PINGVRATHA_MOST_ENDPOINTS];
+} pingvratha_randoms;
 
 /* What receive and tick of a node write to. */
 typedef struct pingvratha_room {
@@ -422,10 +427,9 @@ static inline void pingvratha_node_blank(pingvratha_node *self) {
 
 /* As pingvratha_begin, and keeps the state. */
 static inline uint32_t pingvratha_node_begin(
-    pingvratha_node *self, uint32_t own, uint64_t clock,
-    const uint32_t randoms[PINGVRATHA_MOST_ENDPOINTS]) {
+    pingvratha_node *self, uint32_t own, uint64_t clock, pingvratha_randoms randoms) {
     pingvratha_done answer = pingvratha_begin(
-        self->state, self->memory, sizeof self->memory, own, clock, randoms);
+        self->state, self->memory, sizeof self->memory, own, clock, randoms.numbers);
     self->state = answer.state;
     return answer.number;
 }
@@ -433,9 +437,10 @@ static inline uint32_t pingvratha_node_begin(
 /* As pingvratha_resume, and keeps the state. */
 static inline uint32_t pingvratha_node_resume(
     pingvratha_node *self, const uint8_t *snapshot, size_t snapshot_length, uint64_t clock,
-    const uint32_t randoms[PINGVRATHA_MOST_ENDPOINTS]) {
+    pingvratha_randoms randoms) {
     pingvratha_done answer = pingvratha_resume(
-        self->state, self->memory, sizeof self->memory, snapshot, snapshot_length, clock, randoms);
+        self->state, self->memory, sizeof self->memory, snapshot, snapshot_length, clock,
+        randoms.numbers);
     self->state = answer.state;
     return answer.number;
 }
@@ -443,11 +448,10 @@ static inline uint32_t pingvratha_node_resume(
 /* As pingvratha_receive, and keeps the state. */
 static inline pingvratha_node_answer pingvratha_node_receive(
     pingvratha_node *self, pingvratha_room *room, const uint8_t *datagram, size_t datagram_length,
-    uint64_t clock, uint32_t endpoint, bool unicast,
-    const uint32_t randoms[PINGVRATHA_MOST_ENDPOINTS]) {
+    uint64_t clock, uint32_t endpoint, bool unicast, pingvratha_randoms randoms) {
     pingvratha_answer answer = pingvratha_receive(
         self->state, self->memory, sizeof self->memory, room->bytes, sizeof room->bytes, datagram,
-        datagram_length, clock, endpoint, unicast, randoms);
+        datagram_length, clock, endpoint, unicast, randoms.numbers);
     self->state = answer.state;
     pingvratha_node_answer rest;
     rest.number = answer.number;
@@ -460,10 +464,10 @@ static inline pingvratha_node_answer pingvratha_node_receive(
 /* As pingvratha_tick, and keeps the state. */
 static inline pingvratha_node_sent pingvratha_node_tick(
     pingvratha_node *self, pingvratha_room *room, uint64_t clock, uint32_t endpoint,
-    const uint32_t randoms[PINGVRATHA_MOST_ENDPOINTS]) {
+    pingvratha_randoms randoms) {
     pingvratha_sent answer = pingvratha_tick(
         self->state, self->memory, sizeof self->memory, room->bytes, sizeof room->bytes, clock,
-        endpoint, randoms);
+        endpoint, randoms.numbers);
     self->state = answer.state;
     pingvratha_node_sent rest;
     rest.number = answer.number;
@@ -474,18 +478,19 @@ static inline pingvratha_node_sent pingvratha_node_tick(
 /* As pingvratha_pay, and keeps the state. */
 static inline uint32_t pingvratha_node_pay(
     pingvratha_node *self, uint64_t clock, uint32_t household, uint32_t receipt, int32_t amount,
-    const uint32_t randoms[PINGVRATHA_MOST_ENDPOINTS]) {
+    pingvratha_randoms randoms) {
     pingvratha_done answer = pingvratha_pay(
-        self->state, self->memory, sizeof self->memory, clock, household, receipt, amount, randoms);
+        self->state, self->memory, sizeof self->memory, clock, household, receipt, amount,
+        randoms.numbers);
     self->state = answer.state;
     return answer.number;
 }
 
 /* As pingvratha_purge, and keeps the state. */
 static inline uint32_t pingvratha_node_purge(
-    pingvratha_node *self, uint64_t clock, const uint32_t randoms[PINGVRATHA_MOST_ENDPOINTS]) {
+    pingvratha_node *self, uint64_t clock, pingvratha_randoms randoms) {
     pingvratha_done answer = pingvratha_purge(
-        self->state, self->memory, sizeof self->memory, clock, randoms);
+        self->state, self->memory, sizeof self->memory, clock, randoms.numbers);
     self->state = answer.state;
     return answer.number;
 }

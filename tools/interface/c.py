@@ -20,9 +20,9 @@ extern "C" {
 #endif
 """
 NODES = """
-/* ---- A node: the same calls, which keep the state by themselves and whose buffers have the right
- * size by their types. It starts with pingvratha_node_blank, and nothing but these calls writes to
- * it. They answer what the plain calls answer, without the state. */
+/* ---- A node: the same calls, which keep the state by themselves; what is lent has the right size by
+ * its type. A node starts with pingvratha_node_blank, and nothing but these calls writes to it. They
+ * answer what the plain calls answer, without the state. */
 """
 LAYOUTS = """
 /* ---- Where a layout is not the library's, this does not compile. */
@@ -148,6 +148,9 @@ class Header:
 
     def node_types(self):
         yield from self.struct('node', ['State and table memory of one node.'], [Field([], 'state', 'State'), Field([], 'memory', '[u8; TABLE_BYTES]')])
+        for p in {p.name: p for call in self.i.calls for p in call.params if array(p.type)}.values():
+            doc = f'The {p.name} of a call, one for each endpoint.'
+            yield from self.struct(p.name, [doc], [Field([], 'numbers', p.type.removeprefix('&'))])
         for name in dict.fromkeys(p.name for call in self.i.calls for p in call.lent()):
             users = [c.name for c in self.i.calls if name in (p.name for p in c.lent())]
             doc = f'What {" and ".join(users)} of a node write{"s" * (len(users) == 1)} to.'
@@ -173,6 +176,8 @@ class Header:
         for p in call.params:
             if p in call.lent():
                 yield f'pingvratha_{p.name} *{p.name}'
+            elif array(p.type):
+                yield f'pingvratha_{p.name} {p.name}'
             elif p.type != 'State' and p.name != 'memory':
                 yield from self.parameters([p])
 
@@ -184,6 +189,8 @@ class Header:
                 yield from ('self->memory', 'sizeof self->memory')
             elif p in call.lent():
                 yield from (f'{p.name}->bytes', f'sizeof {p.name}->bytes')
+            elif array(p.type):
+                yield f'{p.name}.numbers'
             else:
                 yield from (p.name, f'{p.name}_length') if p.type in SLICES else (p.name,)
 
