@@ -7,7 +7,7 @@
 
 #include <pingvratha.h>
 
-/* A link between endpoint 1 of one node and endpoint 1 of the other. */
+/* A link between endpoint 1 of one node and endpoint 1 of the other. A node of zeros is blank. */
 static pingvratha_node nodes[2];
 static pingvratha_room rooms[2];
 static uint64_t reading = 1000;
@@ -83,10 +83,8 @@ static void print_total(int at) {
 
 int main(void) {
     static pingvratha_snapshot book;
-    for (int at = 0; at < 2; at++) {
-        pingvratha_node_blank(&nodes[at]);
+    for (int at = 0; at < 2; at++)
         expect(pingvratha_node_begin(&nodes[at], 7 + (uint32_t)at, reading, draw()));
-    }
     come_level();
 
     expect(pingvratha_node_pay(&nodes[0], reading, 17, 4711, 1250, draw()));

@@ -4,35 +4,39 @@
  * The library owns nothing: no memory, no clock, no radio, no random numbers. A host
  *
  * - starts from the blank state, and hands each call the state and the table memory just as the
- *   last call left them. That is the one premise of the proofs. It   holds for refused calls
- *   too, so nothing has to be checked before a call;
+ *   last call left them. That is the one premise of the proofs. It holds for refused calls too,
+ *   so nothing has to be checked before a call;
  * - lends PINGVRATHA_TABLE_BYTES of table memory to every call, PINGVRATHA_MOST_BYTES of room to
  *   receive and tick, PINGVRATHA_SNAPSHOT_BYTES to save. More is fine, less is refused with
  *   PINGVRATHA_BUFFER_TOO_SMALL. Buffers lent to one call don't overlap;
- * - gives each box an identifier of its own: two boxes with one identifier replace each other's
- *   payments;
+ * - gives each box an identifier of its own, for good: two boxes with one identifier replace
+ *   each other's payments, and so does a box that begins anew under the one that it had;
  * - gives one random number for each endpoint with every call that changes state, new ones each
  *   time;
  * - gives the clock in milliseconds, never lower than before;
  * - ticks every endpoint, 1 to PINGVRATHA_MOST_ENDPOINTS, again and again, some ten times a
- *   second: the shortest interval between two sendings is PINGVRATHA_LEAST_INTERVAL. What a
- *   tick writes goes out by multicast on that endpoint;
+ *   second: the shortest interval between two sendings is PINGVRATHA_LEAST_INTERVAL. What a tick
+ *   writes goes out by multicast on that endpoint;
  * - hands each datagram to receive, with the endpoint that it came on and whether it came by
- *   unicast. What receive writes goes back by unicast to where the   datagram came from, on the
+ *   unicast. What receive writes goes back by unicast to where the datagram came from, on the
  *   same endpoint;
  * - saves after each accepted payment before anything is sent, and keeps that snapshot over a
- *   loss of power. A node that resumes from an older one takes the   payments since back
- *   everywhere.
+ *   loss of power: whole or not at all, and with a checksum, for a snapshot has none. A node
+ *   that resumes from an older one takes the payments since back everywhere.
  *
  * An answer's number is 0 for an accepted call, else why it is refused: the first in the order
  * given with each call that applies. A refused call gives 0 in all other fields, hands back the
  * state that came in, and writes to no buffer. Of an accepted call, the bytes of a buffer beyond
  * what is written stay.
  *
- * A node is a box, a snapshot its saved book. A node is reachable when a chain of nodes that
- * name each other as peers leads from ours to it.
+ * Calls on different states may run at the same time. A node is a box, a snapshot its saved
+ * book. A node is reachable when a chain of nodes that name each other as peers leads from ours
+ * to it.
  *
- * Written by tools/bindings from the Rattle source. Link libpingvratha.a. */
+ * Most hosts need the calls on a node alone, pingvratha_node_begin and so on, at the end. Link
+ * libpingvratha.a.
+ *
+ * Written by tools/bindings from the Rattle source. */
 #ifndef PINGVRATHA_H
 #define PINGVRATHA_H
 
@@ -46,6 +50,13 @@
 
 #ifdef __cplusplus
 extern "C" {
+#endif
+
+/* An answer that is not looked at is warned of. */
+#ifdef __GNUC__
+#define PINGVRATHA_ANSWER __attribute__((warn_unused_result))
+#else
+#define PINGVRATHA_ANSWER
 #endif
 
 #define PINGVRATHA_VERSION "0.3.0"
@@ -141,19 +152,32 @@ typedef enum pingvratha_number {
 /* These words. */
 static inline const char *pingvratha_words(uint32_t number) {
     switch (number) {
-    case PINGVRATHA_ACCEPTED: return "accepted";
-    case PINGVRATHA_CLOCK_TOO_HIGH: return "clock above 2^62 - 1";
-    case PINGVRATHA_CLOCK_BACK: return "clock below the last accepted reading";
-    case PINGVRATHA_NO_SUCH_ENDPOINT: return "endpoint not 1 to 4";
-    case PINGVRATHA_BUFFER_TOO_SMALL: return "a lent buffer is below its figure";
-    case PINGVRATHA_DATAGRAM_TOO_LONG: return "datagram over 4,096 bytes";
-    case PINGVRATHA_DATAGRAM_MALFORMED: return "datagram is not a row of whole TLVs with zero padding";
-    case PINGVRATHA_NO_SUCH_HOUSEHOLD: return "household outside 1 to 9,999";
-    case PINGVRATHA_PAID_ALREADY: return "this very payment stands in our data already";
-    case PINGVRATHA_DATA_FULL: return "the payment doesn't fit in our 1,024 bytes";
-    case PINGVRATHA_NO_SUCH_NODE: return "no such box in the table";
-    case PINGVRATHA_NOT_A_SNAPSHOT: return "not a saved book";
-    default: return "no such number";
+    case PINGVRATHA_ACCEPTED:
+        return "accepted";
+    case PINGVRATHA_CLOCK_TOO_HIGH:
+        return "clock above 2^62 - 1";
+    case PINGVRATHA_CLOCK_BACK:
+        return "clock below the last accepted reading";
+    case PINGVRATHA_NO_SUCH_ENDPOINT:
+        return "endpoint not 1 to 4";
+    case PINGVRATHA_BUFFER_TOO_SMALL:
+        return "a lent buffer is below its figure";
+    case PINGVRATHA_DATAGRAM_TOO_LONG:
+        return "datagram over 4,096 bytes";
+    case PINGVRATHA_DATAGRAM_MALFORMED:
+        return "datagram is not a row of whole TLVs with zero padding";
+    case PINGVRATHA_NO_SUCH_HOUSEHOLD:
+        return "household outside 1 to 9,999";
+    case PINGVRATHA_PAID_ALREADY:
+        return "this very payment stands in our data already";
+    case PINGVRATHA_DATA_FULL:
+        return "the payment doesn't fit in our 1,024 bytes";
+    case PINGVRATHA_NO_SUCH_NODE:
+        return "no such box in the table";
+    case PINGVRATHA_NOT_A_SNAPSHOT:
+        return "not a saved book";
+    default:
+        return "no such number";
     }
 }
 
@@ -275,13 +299,13 @@ typedef struct pingvratha_extent {
  * numbers 0.
  *
  * Never refused. */
-pingvratha_state pingvratha_blank(void);
+PINGVRATHA_ANSWER pingvratha_state pingvratha_blank(void);
 
 /* Begins with our node alone: empty data, sequence number 0, no peers. Also over a running node
  * and at an earlier reading; all that was held is gone.
  *
  * Refusals in order: PINGVRATHA_CLOCK_TOO_HIGH, PINGVRATHA_BUFFER_TOO_SMALL. */
-pingvratha_done pingvratha_begin(
+PINGVRATHA_ANSWER pingvratha_done pingvratha_begin(
     pingvratha_state state, const uint8_t *memory, size_t memory_length, uint32_t own,
     uint64_t clock, const uint32_t randoms[PINGVRATHA_MOST_ENDPOINTS]);
 
@@ -290,7 +314,7 @@ pingvratha_done pingvratha_begin(
  *
  * Refusals in order: PINGVRATHA_CLOCK_TOO_HIGH, PINGVRATHA_BUFFER_TOO_SMALL,
  * PINGVRATHA_NOT_A_SNAPSHOT. */
-pingvratha_done pingvratha_resume(
+PINGVRATHA_ANSWER pingvratha_done pingvratha_resume(
     pingvratha_state state, uint8_t *memory, size_t memory_length, const uint8_t *snapshot,
     size_t snapshot_length, uint64_t clock, const uint32_t randoms[PINGVRATHA_MOST_ENDPOINTS]);
 
@@ -300,7 +324,7 @@ pingvratha_done pingvratha_resume(
  * Refusals in order: PINGVRATHA_CLOCK_TOO_HIGH, PINGVRATHA_CLOCK_BACK,
  * PINGVRATHA_NO_SUCH_ENDPOINT, PINGVRATHA_BUFFER_TOO_SMALL, PINGVRATHA_DATAGRAM_TOO_LONG,
  * PINGVRATHA_DATAGRAM_MALFORMED. */
-pingvratha_answer pingvratha_receive(
+PINGVRATHA_ANSWER pingvratha_answer pingvratha_receive(
     pingvratha_state state, uint8_t *memory, size_t memory_length, uint8_t *room,
     size_t room_length, const uint8_t *datagram, size_t datagram_length, uint64_t clock,
     uint32_t endpoint, bool unicast, const uint32_t randoms[PINGVRATHA_MOST_ENDPOINTS]);
@@ -312,17 +336,19 @@ pingvratha_answer pingvratha_receive(
  *
  * Refusals in order: PINGVRATHA_CLOCK_TOO_HIGH, PINGVRATHA_CLOCK_BACK,
  * PINGVRATHA_NO_SUCH_ENDPOINT, PINGVRATHA_BUFFER_TOO_SMALL. */
-pingvratha_sent pingvratha_tick(
+PINGVRATHA_ANSWER pingvratha_sent pingvratha_tick(
     pingvratha_state state, uint8_t *memory, size_t memory_length, uint8_t *room,
     size_t room_length, uint64_t clock, uint32_t endpoint,
     const uint32_t randoms[PINGVRATHA_MOST_ENDPOINTS]);
 
-/* Puts a payment, in cents, into our data and publishes it. Save before anything is sent.
+/* Puts a payment, in cents, into our data, where it takes 8, 12 or 16 bytes, and publishes it.
+ * Save before anything is sent. Only the same household, receipt and amount together are the
+ * same payment.
  *
  * Refusals in order: PINGVRATHA_CLOCK_TOO_HIGH, PINGVRATHA_CLOCK_BACK,
  * PINGVRATHA_BUFFER_TOO_SMALL, PINGVRATHA_NO_SUCH_HOUSEHOLD, PINGVRATHA_PAID_ALREADY,
  * PINGVRATHA_DATA_FULL. */
-pingvratha_done pingvratha_pay(
+PINGVRATHA_ANSWER pingvratha_done pingvratha_pay(
     pingvratha_state state, uint8_t *memory, size_t memory_length, uint64_t clock,
     uint32_t household, uint32_t receipt, int32_t amount,
     const uint32_t randoms[PINGVRATHA_MOST_ENDPOINTS]);
@@ -332,7 +358,7 @@ pingvratha_done pingvratha_pay(
  *
  * Refusals in order: PINGVRATHA_CLOCK_TOO_HIGH, PINGVRATHA_CLOCK_BACK,
  * PINGVRATHA_BUFFER_TOO_SMALL. */
-pingvratha_done pingvratha_purge(
+PINGVRATHA_ANSWER pingvratha_done pingvratha_purge(
     pingvratha_state state, const uint8_t *memory, size_t memory_length, uint64_t clock,
     const uint32_t randoms[PINGVRATHA_MOST_ENDPOINTS]);
 
@@ -342,7 +368,7 @@ pingvratha_done pingvratha_purge(
  *
  * Refusals in order: PINGVRATHA_CLOCK_TOO_HIGH, PINGVRATHA_CLOCK_BACK,
  * PINGVRATHA_BUFFER_TOO_SMALL, PINGVRATHA_NO_SUCH_HOUSEHOLD. */
-pingvratha_summed pingvratha_total(
+PINGVRATHA_ANSWER pingvratha_summed pingvratha_total(
     pingvratha_state state, const uint8_t *memory, size_t memory_length, uint64_t clock,
     uint32_t household);
 
@@ -350,21 +376,21 @@ pingvratha_summed pingvratha_total(
  *
  * Refusals in order: PINGVRATHA_CLOCK_TOO_HIGH, PINGVRATHA_CLOCK_BACK,
  * PINGVRATHA_BUFFER_TOO_SMALL. */
-pingvratha_summed pingvratha_sum(
+PINGVRATHA_ANSWER pingvratha_summed pingvratha_sum(
     pingvratha_state state, const uint8_t *memory, size_t memory_length, uint64_t clock);
 
 /* The reachable nodes, whose payments are summed, and the network digest.
  *
  * Refusals in order: PINGVRATHA_CLOCK_TOO_HIGH, PINGVRATHA_CLOCK_BACK,
  * PINGVRATHA_BUFFER_TOO_SMALL. */
-pingvratha_marked pingvratha_marks(
+PINGVRATHA_ANSWER pingvratha_marked pingvratha_marks(
     pingvratha_state state, const uint8_t *memory, size_t memory_length, uint64_t clock);
 
 /* Writes a snapshot of all nodes held to the front of what is lent for it.
  *
  * Refusals in order: PINGVRATHA_CLOCK_TOO_HIGH, PINGVRATHA_CLOCK_BACK,
  * PINGVRATHA_BUFFER_TOO_SMALL. */
-pingvratha_saved pingvratha_save(
+PINGVRATHA_ANSWER pingvratha_saved pingvratha_save(
     pingvratha_state state, const uint8_t *memory, size_t memory_length, uint8_t *snapshot,
     size_t snapshot_length, uint64_t clock);
 
@@ -372,18 +398,19 @@ pingvratha_saved pingvratha_save(
  * for a refusal, whose number pingvratha_show_refusal gives.
  *
  * Refusals in order: PINGVRATHA_BUFFER_TOO_SMALL, PINGVRATHA_NO_SUCH_NODE. */
-pingvratha_extent pingvratha_show(
+PINGVRATHA_ANSWER pingvratha_extent pingvratha_show(
     pingvratha_state state, const uint8_t *memory, size_t memory_length, uint32_t node);
 
 /* The number of show with the same arguments; 0 where the data are shown.
  *
  * Refusals in order: PINGVRATHA_BUFFER_TOO_SMALL, PINGVRATHA_NO_SUCH_NODE. */
-uint32_t pingvratha_show_refusal(
+PINGVRATHA_ANSWER uint32_t pingvratha_show_refusal(
     pingvratha_state state, const uint8_t *memory, size_t memory_length, uint32_t node);
 
-/* ---- A node: the same calls, which keep the state by themselves; what is lent has the right size by
- * its type. A node starts with pingvratha_node_blank, and nothing but these calls writes to it. They
- * answer what the plain calls answer, without the state. */
+/* ---- A node: the same calls, which keep the state by themselves; what is lent has the right size
+ * by its type. A node starts with pingvratha_node_blank or as zeros, and nothing but these calls
+ * writes to it. They answer what the plain calls answer, without the state. A datagram or a snapshot
+ * that is read stands neither in the node nor in the room. */
 
 /* State and table memory of one node. */
 typedef struct pingvratha_node {
@@ -420,38 +447,44 @@ typedef struct pingvratha_node_sent {
     size_t length; /* bytes to send, at the front of the room */
 } pingvratha_node_sent;
 
+/* The state; of a node of zeros the blank one, for a state of the library has our own entry. */
+static inline pingvratha_state pingvratha_node_state(const pingvratha_node *self) {
+    return self->state.table.count == 0 ? pingvratha_blank() : self->state;
+}
+
 /* As pingvratha_blank, and keeps the state. */
 static inline void pingvratha_node_blank(pingvratha_node *self) {
     self->state = pingvratha_blank();
 }
 
 /* As pingvratha_begin, and keeps the state. */
-static inline uint32_t pingvratha_node_begin(
+PINGVRATHA_ANSWER static inline uint32_t pingvratha_node_begin(
     pingvratha_node *self, uint32_t own, uint64_t clock, pingvratha_randoms randoms) {
     pingvratha_done answer = pingvratha_begin(
-        self->state, self->memory, sizeof self->memory, own, clock, randoms.numbers);
-    self->state = answer.state;
-    return answer.number;
-}
-
-/* As pingvratha_resume, and keeps the state. */
-static inline uint32_t pingvratha_node_resume(
-    pingvratha_node *self, const uint8_t *snapshot, size_t snapshot_length, uint64_t clock,
-    pingvratha_randoms randoms) {
-    pingvratha_done answer = pingvratha_resume(
-        self->state, self->memory, sizeof self->memory, snapshot, snapshot_length, clock,
+        pingvratha_node_state(self), self->memory, sizeof self->memory, own, clock,
         randoms.numbers);
     self->state = answer.state;
     return answer.number;
 }
 
+/* As pingvratha_resume, and keeps the state. */
+PINGVRATHA_ANSWER static inline uint32_t pingvratha_node_resume(
+    pingvratha_node *self, const uint8_t *snapshot, size_t snapshot_length, uint64_t clock,
+    pingvratha_randoms randoms) {
+    pingvratha_done answer = pingvratha_resume(
+        pingvratha_node_state(self), self->memory, sizeof self->memory, snapshot, snapshot_length,
+        clock, randoms.numbers);
+    self->state = answer.state;
+    return answer.number;
+}
+
 /* As pingvratha_receive, and keeps the state. */
-static inline pingvratha_node_answer pingvratha_node_receive(
+PINGVRATHA_ANSWER static inline pingvratha_node_answer pingvratha_node_receive(
     pingvratha_node *self, pingvratha_room *room, const uint8_t *datagram, size_t datagram_length,
     uint64_t clock, uint32_t endpoint, bool unicast, pingvratha_randoms randoms) {
     pingvratha_answer answer = pingvratha_receive(
-        self->state, self->memory, sizeof self->memory, room->bytes, sizeof room->bytes, datagram,
-        datagram_length, clock, endpoint, unicast, randoms.numbers);
+        pingvratha_node_state(self), self->memory, sizeof self->memory, room->bytes,
+        sizeof room->bytes, datagram, datagram_length, clock, endpoint, unicast, randoms.numbers);
     self->state = answer.state;
     pingvratha_node_answer rest;
     rest.number = answer.number;
@@ -462,12 +495,12 @@ static inline pingvratha_node_answer pingvratha_node_receive(
 }
 
 /* As pingvratha_tick, and keeps the state. */
-static inline pingvratha_node_sent pingvratha_node_tick(
+PINGVRATHA_ANSWER static inline pingvratha_node_sent pingvratha_node_tick(
     pingvratha_node *self, pingvratha_room *room, uint64_t clock, uint32_t endpoint,
     pingvratha_randoms randoms) {
     pingvratha_sent answer = pingvratha_tick(
-        self->state, self->memory, sizeof self->memory, room->bytes, sizeof room->bytes, clock,
-        endpoint, randoms.numbers);
+        pingvratha_node_state(self), self->memory, sizeof self->memory, room->bytes,
+        sizeof room->bytes, clock, endpoint, randoms.numbers);
     self->state = answer.state;
     pingvratha_node_sent rest;
     rest.number = answer.number;
@@ -476,130 +509,142 @@ static inline pingvratha_node_sent pingvratha_node_tick(
 }
 
 /* As pingvratha_pay, and keeps the state. */
-static inline uint32_t pingvratha_node_pay(
+PINGVRATHA_ANSWER static inline uint32_t pingvratha_node_pay(
     pingvratha_node *self, uint64_t clock, uint32_t household, uint32_t receipt, int32_t amount,
     pingvratha_randoms randoms) {
     pingvratha_done answer = pingvratha_pay(
-        self->state, self->memory, sizeof self->memory, clock, household, receipt, amount,
-        randoms.numbers);
+        pingvratha_node_state(self), self->memory, sizeof self->memory, clock, household, receipt,
+        amount, randoms.numbers);
     self->state = answer.state;
     return answer.number;
 }
 
 /* As pingvratha_purge, and keeps the state. */
-static inline uint32_t pingvratha_node_purge(
+PINGVRATHA_ANSWER static inline uint32_t pingvratha_node_purge(
     pingvratha_node *self, uint64_t clock, pingvratha_randoms randoms) {
     pingvratha_done answer = pingvratha_purge(
-        self->state, self->memory, sizeof self->memory, clock, randoms.numbers);
+        pingvratha_node_state(self), self->memory, sizeof self->memory, clock, randoms.numbers);
     self->state = answer.state;
     return answer.number;
 }
 
 /* As pingvratha_total. */
-static inline pingvratha_summed pingvratha_node_total(
+PINGVRATHA_ANSWER static inline pingvratha_summed pingvratha_node_total(
     const pingvratha_node *self, uint64_t clock, uint32_t household) {
-    return pingvratha_total(self->state, self->memory, sizeof self->memory, clock, household);
+    return pingvratha_total(
+        pingvratha_node_state(self), self->memory, sizeof self->memory, clock, household);
 }
 
 /* As pingvratha_sum. */
-static inline pingvratha_summed pingvratha_node_sum(const pingvratha_node *self, uint64_t clock) {
-    return pingvratha_sum(self->state, self->memory, sizeof self->memory, clock);
+PINGVRATHA_ANSWER static inline pingvratha_summed pingvratha_node_sum(
+    const pingvratha_node *self, uint64_t clock) {
+    return pingvratha_sum(pingvratha_node_state(self), self->memory, sizeof self->memory, clock);
 }
 
 /* As pingvratha_marks. */
-static inline pingvratha_marked pingvratha_node_marks(const pingvratha_node *self, uint64_t clock) {
-    return pingvratha_marks(self->state, self->memory, sizeof self->memory, clock);
+PINGVRATHA_ANSWER static inline pingvratha_marked pingvratha_node_marks(
+    const pingvratha_node *self, uint64_t clock) {
+    return pingvratha_marks(pingvratha_node_state(self), self->memory, sizeof self->memory, clock);
 }
 
 /* As pingvratha_save. */
-static inline pingvratha_saved pingvratha_node_save(
+PINGVRATHA_ANSWER static inline pingvratha_saved pingvratha_node_save(
     const pingvratha_node *self, pingvratha_snapshot *snapshot, uint64_t clock) {
     return pingvratha_save(
-        self->state, self->memory, sizeof self->memory, snapshot->bytes, sizeof snapshot->bytes,
-        clock);
+        pingvratha_node_state(self), self->memory, sizeof self->memory, snapshot->bytes,
+        sizeof snapshot->bytes, clock);
 }
 
 /* As pingvratha_show. */
-static inline pingvratha_extent pingvratha_node_show(const pingvratha_node *self, uint32_t node) {
-    return pingvratha_show(self->state, self->memory, sizeof self->memory, node);
+PINGVRATHA_ANSWER static inline pingvratha_extent pingvratha_node_show(
+    const pingvratha_node *self, uint32_t node) {
+    return pingvratha_show(pingvratha_node_state(self), self->memory, sizeof self->memory, node);
 }
 
 /* As pingvratha_show_refusal. */
-static inline uint32_t pingvratha_node_show_refusal(const pingvratha_node *self, uint32_t node) {
-    return pingvratha_show_refusal(self->state, self->memory, sizeof self->memory, node);
+PINGVRATHA_ANSWER static inline uint32_t pingvratha_node_show_refusal(
+    const pingvratha_node *self, uint32_t node) {
+    return pingvratha_show_refusal(
+        pingvratha_node_state(self), self->memory, sizeof self->memory, node);
 }
 
 /* ---- Where a layout is not the library's, this does not compile. */
 
-#define PINGVRATHA_SAME(name, is, wanted) \
-    typedef char pingvratha_same_##name[(is) == (wanted) ? 1 : -1]
+#if defined(__cplusplus)
+#define PINGVRATHA_SAME(name, is, wanted) static_assert((is) == (wanted), #name)
+#elif defined(__STDC_VERSION__) && __STDC_VERSION__ >= 201112L
+#define PINGVRATHA_SAME(name, is, wanted) _Static_assert((is) == (wanted), #name)
+#else
+#define PINGVRATHA_SAME(name, is, wanted) typedef char name[(is) == (wanted) ? 1 : -1]
+#endif
 
-PINGVRATHA_SAME(size_t, sizeof(size_t), 8);
-PINGVRATHA_SAME(entry, sizeof(pingvratha_entry), 40);
-PINGVRATHA_SAME(entry_id, offsetof(pingvratha_entry, id), 0);
-PINGVRATHA_SAME(entry_seq, offsetof(pingvratha_entry, seq), 4);
-PINGVRATHA_SAME(entry_age, offsetof(pingvratha_entry, age), 8);
-PINGVRATHA_SAME(entry_len, offsetof(pingvratha_entry, len), 12);
-PINGVRATHA_SAME(entry_slot, offsetof(pingvratha_entry, slot), 14);
-PINGVRATHA_SAME(entry_since, offsetof(pingvratha_entry, since), 16);
-PINGVRATHA_SAME(entry_hash, offsetof(pingvratha_entry, hash), 24);
-PINGVRATHA_SAME(table, sizeof(pingvratha_table), 1288);
-PINGVRATHA_SAME(table_count, offsetof(pingvratha_table, count), 0);
-PINGVRATHA_SAME(table_entries, offsetof(pingvratha_table, entries), 8);
-PINGVRATHA_SAME(peer, sizeof(pingvratha_peer), 24);
-PINGVRATHA_SAME(peer_node, offsetof(pingvratha_peer, node), 0);
-PINGVRATHA_SAME(peer_theirs, offsetof(pingvratha_peer, theirs), 4);
-PINGVRATHA_SAME(peer_ours, offsetof(pingvratha_peer, ours), 8);
-PINGVRATHA_SAME(peer_contact, offsetof(pingvratha_peer, contact), 16);
-PINGVRATHA_SAME(peers, sizeof(pingvratha_peers), 392);
-PINGVRATHA_SAME(peers_count, offsetof(pingvratha_peers, count), 0);
-PINGVRATHA_SAME(peers_list, offsetof(pingvratha_peers, list), 8);
-PINGVRATHA_SAME(trickle, sizeof(pingvratha_trickle), 32);
-PINGVRATHA_SAME(trickle_start, offsetof(pingvratha_trickle, start), 0);
-PINGVRATHA_SAME(trickle_point, offsetof(pingvratha_trickle, point), 8);
-PINGVRATHA_SAME(trickle_interval, offsetof(pingvratha_trickle, interval), 16);
-PINGVRATHA_SAME(trickle_count, offsetof(pingvratha_trickle, count), 24);
-PINGVRATHA_SAME(trickle_spent, offsetof(pingvratha_trickle, spent), 28);
-PINGVRATHA_SAME(endpoint, sizeof(pingvratha_endpoint), 40);
-PINGVRATHA_SAME(endpoint_trickle, offsetof(pingvratha_endpoint, trickle), 0);
-PINGVRATHA_SAME(endpoint_next, offsetof(pingvratha_endpoint, next), 32);
-PINGVRATHA_SAME(state, sizeof(pingvratha_state), 1872);
-PINGVRATHA_SAME(state_own, offsetof(pingvratha_state, own), 0);
-PINGVRATHA_SAME(state_last, offsetof(pingvratha_state, last), 8);
-PINGVRATHA_SAME(state_table, offsetof(pingvratha_state, table), 16);
-PINGVRATHA_SAME(state_peers, offsetof(pingvratha_state, peers), 1304);
-PINGVRATHA_SAME(state_endpoints, offsetof(pingvratha_state, endpoints), 1696);
-PINGVRATHA_SAME(state_digest, offsetof(pingvratha_state, digest), 1856);
-PINGVRATHA_SAME(done, sizeof(pingvratha_done), 1880);
-PINGVRATHA_SAME(done_number, offsetof(pingvratha_done, number), 0);
-PINGVRATHA_SAME(done_state, offsetof(pingvratha_done, state), 8);
-PINGVRATHA_SAME(answer, sizeof(pingvratha_answer), 1896);
-PINGVRATHA_SAME(answer_number, offsetof(pingvratha_answer, number), 0);
-PINGVRATHA_SAME(answer_state, offsetof(pingvratha_answer, state), 8);
-PINGVRATHA_SAME(answer_length, offsetof(pingvratha_answer, length), 1880);
-PINGVRATHA_SAME(answer_omitted, offsetof(pingvratha_answer, omitted), 1888);
-PINGVRATHA_SAME(answer_dropped, offsetof(pingvratha_answer, dropped), 1892);
-PINGVRATHA_SAME(sent, sizeof(pingvratha_sent), 1888);
-PINGVRATHA_SAME(sent_number, offsetof(pingvratha_sent, number), 0);
-PINGVRATHA_SAME(sent_state, offsetof(pingvratha_sent, state), 8);
-PINGVRATHA_SAME(sent_length, offsetof(pingvratha_sent, length), 1880);
-PINGVRATHA_SAME(summed, sizeof(pingvratha_summed), 24);
-PINGVRATHA_SAME(summed_number, offsetof(pingvratha_summed, number), 0);
-PINGVRATHA_SAME(summed_value, offsetof(pingvratha_summed, value), 8);
-PINGVRATHA_SAME(summed_unread, offsetof(pingvratha_summed, unread), 16);
-PINGVRATHA_SAME(marked, sizeof(pingvratha_marked), 160);
-PINGVRATHA_SAME(marked_number, offsetof(pingvratha_marked, number), 0);
-PINGVRATHA_SAME(marked_count, offsetof(pingvratha_marked, count), 8);
-PINGVRATHA_SAME(marked_nodes, offsetof(pingvratha_marked, nodes), 16);
-PINGVRATHA_SAME(marked_digest, offsetof(pingvratha_marked, digest), 144);
-PINGVRATHA_SAME(saved, sizeof(pingvratha_saved), 16);
-PINGVRATHA_SAME(saved_number, offsetof(pingvratha_saved, number), 0);
-PINGVRATHA_SAME(saved_length, offsetof(pingvratha_saved, length), 8);
-PINGVRATHA_SAME(extent, sizeof(pingvratha_extent), 16);
-PINGVRATHA_SAME(extent_start, offsetof(pingvratha_extent, start), 0);
-PINGVRATHA_SAME(extent_length, offsetof(pingvratha_extent, length), 8);
+PINGVRATHA_SAME(pingvratha_same_size, sizeof(size_t), 8);
+PINGVRATHA_SAME(pingvratha_same_entry, sizeof(pingvratha_entry), 40);
+PINGVRATHA_SAME(pingvratha_same_entry_id, offsetof(pingvratha_entry, id), 0);
+PINGVRATHA_SAME(pingvratha_same_entry_seq, offsetof(pingvratha_entry, seq), 4);
+PINGVRATHA_SAME(pingvratha_same_entry_age, offsetof(pingvratha_entry, age), 8);
+PINGVRATHA_SAME(pingvratha_same_entry_len, offsetof(pingvratha_entry, len), 12);
+PINGVRATHA_SAME(pingvratha_same_entry_slot, offsetof(pingvratha_entry, slot), 14);
+PINGVRATHA_SAME(pingvratha_same_entry_since, offsetof(pingvratha_entry, since), 16);
+PINGVRATHA_SAME(pingvratha_same_entry_hash, offsetof(pingvratha_entry, hash), 24);
+PINGVRATHA_SAME(pingvratha_same_table, sizeof(pingvratha_table), 1288);
+PINGVRATHA_SAME(pingvratha_same_table_count, offsetof(pingvratha_table, count), 0);
+PINGVRATHA_SAME(pingvratha_same_table_entries, offsetof(pingvratha_table, entries), 8);
+PINGVRATHA_SAME(pingvratha_same_peer, sizeof(pingvratha_peer), 24);
+PINGVRATHA_SAME(pingvratha_same_peer_node, offsetof(pingvratha_peer, node), 0);
+PINGVRATHA_SAME(pingvratha_same_peer_theirs, offsetof(pingvratha_peer, theirs), 4);
+PINGVRATHA_SAME(pingvratha_same_peer_ours, offsetof(pingvratha_peer, ours), 8);
+PINGVRATHA_SAME(pingvratha_same_peer_contact, offsetof(pingvratha_peer, contact), 16);
+PINGVRATHA_SAME(pingvratha_same_peers, sizeof(pingvratha_peers), 392);
+PINGVRATHA_SAME(pingvratha_same_peers_count, offsetof(pingvratha_peers, count), 0);
+PINGVRATHA_SAME(pingvratha_same_peers_list, offsetof(pingvratha_peers, list), 8);
+PINGVRATHA_SAME(pingvratha_same_trickle, sizeof(pingvratha_trickle), 32);
+PINGVRATHA_SAME(pingvratha_same_trickle_start, offsetof(pingvratha_trickle, start), 0);
+PINGVRATHA_SAME(pingvratha_same_trickle_point, offsetof(pingvratha_trickle, point), 8);
+PINGVRATHA_SAME(pingvratha_same_trickle_interval, offsetof(pingvratha_trickle, interval), 16);
+PINGVRATHA_SAME(pingvratha_same_trickle_count, offsetof(pingvratha_trickle, count), 24);
+PINGVRATHA_SAME(pingvratha_same_trickle_spent, offsetof(pingvratha_trickle, spent), 28);
+PINGVRATHA_SAME(pingvratha_same_endpoint, sizeof(pingvratha_endpoint), 40);
+PINGVRATHA_SAME(pingvratha_same_endpoint_trickle, offsetof(pingvratha_endpoint, trickle), 0);
+PINGVRATHA_SAME(pingvratha_same_endpoint_next, offsetof(pingvratha_endpoint, next), 32);
+PINGVRATHA_SAME(pingvratha_same_state, sizeof(pingvratha_state), 1872);
+PINGVRATHA_SAME(pingvratha_same_state_own, offsetof(pingvratha_state, own), 0);
+PINGVRATHA_SAME(pingvratha_same_state_last, offsetof(pingvratha_state, last), 8);
+PINGVRATHA_SAME(pingvratha_same_state_table, offsetof(pingvratha_state, table), 16);
+PINGVRATHA_SAME(pingvratha_same_state_peers, offsetof(pingvratha_state, peers), 1304);
+PINGVRATHA_SAME(pingvratha_same_state_endpoints, offsetof(pingvratha_state, endpoints), 1696);
+PINGVRATHA_SAME(pingvratha_same_state_digest, offsetof(pingvratha_state, digest), 1856);
+PINGVRATHA_SAME(pingvratha_same_done, sizeof(pingvratha_done), 1880);
+PINGVRATHA_SAME(pingvratha_same_done_number, offsetof(pingvratha_done, number), 0);
+PINGVRATHA_SAME(pingvratha_same_done_state, offsetof(pingvratha_done, state), 8);
+PINGVRATHA_SAME(pingvratha_same_answer, sizeof(pingvratha_answer), 1896);
+PINGVRATHA_SAME(pingvratha_same_answer_number, offsetof(pingvratha_answer, number), 0);
+PINGVRATHA_SAME(pingvratha_same_answer_state, offsetof(pingvratha_answer, state), 8);
+PINGVRATHA_SAME(pingvratha_same_answer_length, offsetof(pingvratha_answer, length), 1880);
+PINGVRATHA_SAME(pingvratha_same_answer_omitted, offsetof(pingvratha_answer, omitted), 1888);
+PINGVRATHA_SAME(pingvratha_same_answer_dropped, offsetof(pingvratha_answer, dropped), 1892);
+PINGVRATHA_SAME(pingvratha_same_sent, sizeof(pingvratha_sent), 1888);
+PINGVRATHA_SAME(pingvratha_same_sent_number, offsetof(pingvratha_sent, number), 0);
+PINGVRATHA_SAME(pingvratha_same_sent_state, offsetof(pingvratha_sent, state), 8);
+PINGVRATHA_SAME(pingvratha_same_sent_length, offsetof(pingvratha_sent, length), 1880);
+PINGVRATHA_SAME(pingvratha_same_summed, sizeof(pingvratha_summed), 24);
+PINGVRATHA_SAME(pingvratha_same_summed_number, offsetof(pingvratha_summed, number), 0);
+PINGVRATHA_SAME(pingvratha_same_summed_value, offsetof(pingvratha_summed, value), 8);
+PINGVRATHA_SAME(pingvratha_same_summed_unread, offsetof(pingvratha_summed, unread), 16);
+PINGVRATHA_SAME(pingvratha_same_marked, sizeof(pingvratha_marked), 160);
+PINGVRATHA_SAME(pingvratha_same_marked_number, offsetof(pingvratha_marked, number), 0);
+PINGVRATHA_SAME(pingvratha_same_marked_count, offsetof(pingvratha_marked, count), 8);
+PINGVRATHA_SAME(pingvratha_same_marked_nodes, offsetof(pingvratha_marked, nodes), 16);
+PINGVRATHA_SAME(pingvratha_same_marked_digest, offsetof(pingvratha_marked, digest), 144);
+PINGVRATHA_SAME(pingvratha_same_saved, sizeof(pingvratha_saved), 16);
+PINGVRATHA_SAME(pingvratha_same_saved_number, offsetof(pingvratha_saved, number), 0);
+PINGVRATHA_SAME(pingvratha_same_saved_length, offsetof(pingvratha_saved, length), 8);
+PINGVRATHA_SAME(pingvratha_same_extent, sizeof(pingvratha_extent), 16);
+PINGVRATHA_SAME(pingvratha_same_extent_start, offsetof(pingvratha_extent, start), 0);
+PINGVRATHA_SAME(pingvratha_same_extent_length, offsetof(pingvratha_extent, length), 8);
 
 #undef PINGVRATHA_SAME
+#undef PINGVRATHA_ANSWER
 
 #ifdef __cplusplus
 }

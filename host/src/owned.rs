@@ -76,7 +76,7 @@ impl Calls for Owned {
         let marks = self.0.marks(clock);
         Marks {
             refusal: number(marks),
-            digest: marks.map_or([0; 16], |marks| marks.digest),
+            digest: marks.map_or([0; 16], |marks| marks.digest()),
             nodes: marks.map_or(vec![], |marks| marks.nodes().to_vec()),
         }
     }

@@ -18,20 +18,39 @@ OPENING = """#ifndef PINGVRATHA_H
 #ifdef __cplusplus
 extern "C" {
 #endif
+
+/* An answer that is not looked at is warned of. */
+#ifdef __GNUC__
+#define PINGVRATHA_ANSWER __attribute__((warn_unused_result))
+#else
+#define PINGVRATHA_ANSWER
+#endif
 """
 NODES = """
-/* ---- A node: the same calls, which keep the state by themselves; what is lent has the right size by
- * its type. A node starts with pingvratha_node_blank, and nothing but these calls writes to it. They
- * answer what the plain calls answer, without the state. */
+/* ---- A node: the same calls, which keep the state by themselves; what is lent has the right size
+ * by its type. A node starts with pingvratha_node_blank or as zeros, and nothing but these calls
+ * writes to it. They answer what the plain calls answer, without the state. A datagram or a snapshot
+ * that is read stands neither in the node nor in the room. */
 """
+STATE = """
+/* The state; of a node of zeros the blank one, for a state of the library has our own entry. */
+static inline pingvratha_state pingvratha_node_state(const pingvratha_node *self) {
+    return self->state.table.count == 0 ? pingvratha_blank() : self->state;
+}"""
 LAYOUTS = """
 /* ---- Where a layout is not the library's, this does not compile. */
 
-#define PINGVRATHA_SAME(name, is, wanted) \\
-    typedef char pingvratha_same_##name[(is) == (wanted) ? 1 : -1]
+#if defined(__cplusplus)
+#define PINGVRATHA_SAME(name, is, wanted) static_assert((is) == (wanted), #name)
+#elif defined(__STDC_VERSION__) && __STDC_VERSION__ >= 201112L
+#define PINGVRATHA_SAME(name, is, wanted) _Static_assert((is) == (wanted), #name)
+#else
+#define PINGVRATHA_SAME(name, is, wanted) typedef char name[(is) == (wanted) ? 1 : -1]
+#endif
 """
 CLOSING = """
 #undef PINGVRATHA_SAME
+#undef PINGVRATHA_ANSWER
 
 #ifdef __cplusplus
 }
@@ -65,7 +84,7 @@ class Header:
 
     def lines(self):
         structs = [s.name for s in self.i.structs]
-        yield from self.comment([*self.i.about, '', 'Written by tools/bindings from the Rattle source. Link libpingvratha.a.'])
+        yield from self.comment([*self.i.about, '', 'Most hosts need the calls on a node alone, pingvratha_node_begin and so on, at the end.', 'Link libpingvratha.a.', '', 'Written by tools/bindings from the Rattle source.'])
         yield from [*OPENING.split('\n'), *self.version(), *self.figures(), *self.numbers(), '', '/* ---- The state. */']
         for struct in self.i.structs:
             yield from self.struct(struct.name.lower(), struct.doc, struct.fields)
@@ -73,7 +92,7 @@ class Header:
                 yield from ['', '/* ---- The answers. */']
         yield from ['', '/* ---- Calls that change state. */', *self.plain(True)]
         yield from ['', '/* ---- Calls that show, sum or save. They change nothing, the last reading included. */', *self.plain(False)]
-        yield from [*NODES.rstrip().split('\n'), *self.node_types()]
+        yield from [*NODES.rstrip().split('\n'), *self.node_types(), *STATE.split('\n')]
         for call in self.i.calls:
             yield from self.node_call(call)
         yield from [*LAYOUTS.split('\n'), *self.layouts(), *CLOSING.split('\n')]
@@ -99,8 +118,8 @@ class Header:
         for n, name, words in rows:
             yield f'    PINGVRATHA_{name} = {n}{"," * (n < rows[-1][0])} /* {words} */'
         yield from ['} pingvratha_number;', '', '/* These words. */', 'static inline const char *pingvratha_words(uint32_t number) {', '    switch (number) {']
-        yield from (f'    case PINGVRATHA_{name}: return "{words}";' for _, name, words in rows)
-        yield from ['    default: return "no such number";', '    }', '}']
+        yield from (line for _, name, words in rows for line in (f'    case PINGVRATHA_{name}:', f'        return "{words}";'))
+        yield from ['    default:', '        return "no such number";', '    }', '}']
 
     # structs and calls as they are
 
@@ -134,15 +153,15 @@ class Header:
             if call.changes == changes:
                 refused = f'Refusals in order: {", ".join(call.refusals)}.' if call.refusals else 'Never refused.'
                 yield from ['', *self.comment([*call.doc, '', refused])]
-                yield from called(f'{self.type(call.result)} pingvratha_{call.name}', list(self.parameters(call.params)) or ['void'], ');')
+                yield from called(f'PINGVRATHA_ANSWER {self.type(call.result)} pingvratha_{call.name}', list(self.parameters(call.params)) or ['void'], ');')
 
     def layouts(self):
-        yield 'PINGVRATHA_SAME(size_t, sizeof(size_t), 8);'
+        yield 'PINGVRATHA_SAME(pingvratha_same_size, sizeof(size_t), 8);'
         for struct in self.i.structs:
             name = struct.name.lower()
-            yield f'PINGVRATHA_SAME({name}, sizeof(pingvratha_{name}), {self.i.layout(struct.name)[0]});'
+            yield f'PINGVRATHA_SAME(pingvratha_same_{name}, sizeof(pingvratha_{name}), {self.i.layout(struct.name)[0]});'
             for field, at in zip(struct.fields, self.i.places(struct.fields)):
-                yield f'PINGVRATHA_SAME({name}_{field.name}, offsetof(pingvratha_{name}, {field.name}), {at});'
+                yield f'PINGVRATHA_SAME(pingvratha_same_{name}_{field.name}, offsetof(pingvratha_{name}, {field.name}), {at});'
 
     # calls on a node
 
@@ -184,7 +203,7 @@ class Header:
     def arguments(self, call):
         for p in call.params:
             if p.type == 'State':
-                yield 'self->state'
+                yield 'pingvratha_node_state(self)'
             elif p.name == 'memory':
                 yield from ('self->memory', 'sizeof self->memory')
             elif p in call.lent():
@@ -198,7 +217,8 @@ class Header:
         result, arguments = self.node_result(call), list(self.arguments(call))
         doc = f'As pingvratha_{call.name}{", and keeps the state" * call.changes}.'
         yield from ['', *self.comment([doc])]
-        yield from called(f'static inline {result} pingvratha_node_{call.name}', list(self.node_parameters(call)), ') {')
+        answer = '' if result == 'void' else 'PINGVRATHA_ANSWER '
+        yield from called(f'{answer}static inline {result} pingvratha_node_{call.name}', list(self.node_parameters(call)), ') {')
         plain = f'pingvratha_{call.name}'
         if not call.changes:
             yield from called(f'return {plain}', arguments, ');', '    ')

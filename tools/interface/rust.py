@@ -54,7 +54,7 @@ class Plain:
         return wrapped([self.linked.sub(lambda m: f'[`{self.links[m[0]]}`]', line) for line in lines], front)
 
     def refusals(self):
-        yield from ['', '/// Why a call is refused: a number of document 01, and its words.', '#[repr(u32)]']
+        yield from ['', '/// Why a call is refused: a number of document 01, and its words.', '#[repr(u32)]', '#[non_exhaustive]']
         yield from [DERIVED.replace(')]', ', Hash)]'), 'pub enum Refusal {']
         for n, (name, words) in self.i.refusals.items():
             yield from [f'    /// {words[0].upper()}{words[1:]}.', f'    {self.variants[name]} = {n},']

@@ -173,5 +173,5 @@ def wrapped(lines, front, width=WIDTH):
         out += [front.rstrip()] if out else []
         for block in re.split(r'\n(?=- )', paragraph):
             hanging = front + '  ' * block.startswith('- ')
-            out += wrap(block, width, initial_indent=front, subsequent_indent=hanging, break_long_words=False, break_on_hyphens=False)
+            out += wrap(' '.join(block.split()), width, initial_indent=front, subsequent_indent=hanging, break_long_words=False, break_on_hyphens=False)
     return out

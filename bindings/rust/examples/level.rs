@@ -2,7 +2,7 @@
 //! power and goes on. Prints what host/level.c prints.
 
 use pingvratha::{
-    Node, Randoms, Refusal, Room, SnapshotRoom, MOST_BYTES, MOST_ENDPOINTS, SNAPSHOT_BYTES,
+    Node, Randoms, Refusal, Room, SnapshotRoom, ENDPOINTS, MOST_BYTES, SNAPSHOT_BYTES,
 };
 
 /// A link between endpoint 1 of one node and endpoint 1 of the other.
@@ -40,7 +40,7 @@ impl Link {
     fn pass(&mut self) -> Result<(), Refusal> {
         self.reading += 50;
         for from in 0..2 {
-            for endpoint in 1..=MOST_ENDPOINTS as u32 {
+            for endpoint in ENDPOINTS {
                 let randoms = self.draw();
                 let (node, room) = (&mut self.nodes[from], &mut self.rooms[from]);
                 let sent = node.tick(room, self.reading, endpoint, &randoms)?.to_vec();

@@ -4,6 +4,10 @@ use crate::plain::{
     self, Refusal, State, MOST_BYTES, MOST_ENDPOINTS, MOST_NODES, SNAPSHOT_BYTES, TABLE_BYTES,
 };
 use core::fmt::{self, Debug, Formatter};
+use core::ops::RangeInclusive;
+
+/// Our endpoints.
+pub const ENDPOINTS: RangeInclusive<u32> = 1..=MOST_ENDPOINTS as u32;
 
 /// One random number for each endpoint. Every call that takes them gets new ones.
 pub type Randoms = [u32; MOST_ENDPOINTS];
@@ -19,7 +23,8 @@ pub type SnapshotRoom = [u8; SNAPSHOT_BYTES];
 /// Clock readings are milliseconds and never go back, but at [`begin`](Node::begin) and
 /// [`resume`](Node::resume), which set the first one. A refused call changes nothing.
 ///
-/// A node has some 34 KB, and a call needs up to 16 KB of stack.
+/// A node has some 34 KB, and a call needs up to 16 KB of stack. A clone is the same box: of the two
+/// only one may go on to send.
 #[derive(Clone)]
 pub struct Node {
     state: State,
@@ -40,7 +45,12 @@ impl Node {
     /// Begins with our node alone: empty data, sequence number 0, no peers. All that was held is
     /// gone.
     ///
-    /// No other box may have this identifier: two boxes with one replace each other's payments.
+    /// No other box may have this identifier, nor this one in an earlier life: two boxes with one
+    /// replace each other's payments.
+    ///
+    /// # Errors
+    ///
+    /// The refusals of [`plain::begin`] but [`Refusal::BufferTooSmall`].
     pub fn begin(&mut self, own: u32, clock: u64, randoms: &Randoms) -> Result<(), Refusal> {
         let done = unsafe { plain::begin(&self.state, &self.memory, own, clock, randoms) };
         self.state = done.state;
@@ -49,6 +59,10 @@ impl Node {
 
     /// Goes on from a snapshot, at whatever reading. Our peers are unknown at first, so that only
     /// our own node is reachable, and our data are published anew.
+    ///
+    /// # Errors
+    ///
+    /// The refusals of [`plain::resume`] but [`Refusal::BufferTooSmall`].
     pub fn resume(
         &mut self,
         snapshot: &[u8],
@@ -63,6 +77,10 @@ impl Node {
 
     /// Takes in a datagram that came on the endpoint, by unicast or else by multicast. The reply
     /// goes back by unicast to where the datagram came from, on the same endpoint.
+    ///
+    /// # Errors
+    ///
+    /// The refusals of [`plain::receive`] but [`Refusal::BufferTooSmall`].
     pub fn receive<'a>(
         &mut self,
         room: &'a mut Room,
@@ -91,7 +109,11 @@ impl Node {
     /// before it is too old, and gives what is to be sent by multicast on it; nothing is to be
     /// sent where that is empty.
     ///
-    /// Every endpoint, from 1 to [`MOST_ENDPOINTS`], is ticked some ten times a second.
+    /// Each of the [`ENDPOINTS`] is ticked some ten times a second.
+    ///
+    /// # Errors
+    ///
+    /// The refusals of [`plain::tick`] but [`Refusal::BufferTooSmall`].
     pub fn tick<'a>(
         &mut self,
         room: &'a mut Room,
@@ -106,8 +128,13 @@ impl Node {
         Ok(&room[..sent.length])
     }
 
-    /// Puts a payment, in cents, into our data and publishes it. [Save](Node::save) before anything
-    /// is sent: a node that resumes from an older snapshot takes it back everywhere.
+    /// Puts a payment, in cents, into our data, where it takes 8, 12 or 16 bytes, and publishes it.
+    /// [Save](Node::save) before anything is sent: a node that resumes from an older snapshot takes
+    /// it back everywhere. Only the same household, receipt and amount together are the same payment.
+    ///
+    /// # Errors
+    ///
+    /// The refusals of [`plain::pay`] but [`Refusal::BufferTooSmall`].
     pub fn pay(
         &mut self,
         clock: u64,
@@ -124,6 +151,10 @@ impl Node {
 
     /// Drops every node that is not reachable, its payments with it, which makes place for others.
     /// What is reachable again later comes again.
+    ///
+    /// # Errors
+    ///
+    /// The refusals of [`plain::purge`] but [`Refusal::BufferTooSmall`].
     pub fn purge(&mut self, clock: u64, randoms: &Randoms) -> Result<(), Refusal> {
         let done = unsafe { plain::purge(&self.state, &self.memory, clock, randoms) };
         self.state = done.state;
@@ -131,16 +162,28 @@ impl Node {
     }
 
     /// The total of a household over all reachable nodes.
+    ///
+    /// # Errors
+    ///
+    /// The refusals of [`plain::total`] but [`Refusal::BufferTooSmall`].
     pub fn total(&self, clock: u64, household: u32) -> Result<Total, Refusal> {
         summed(unsafe { plain::total(&self.state, &self.memory, clock, household) })
     }
 
     /// The sum over all households.
+    ///
+    /// # Errors
+    ///
+    /// The refusals of [`plain::sum`] but [`Refusal::BufferTooSmall`].
     pub fn sum(&self, clock: u64) -> Result<Total, Refusal> {
         summed(unsafe { plain::sum(&self.state, &self.memory, clock) })
     }
 
     /// The reachable nodes, whose payments are summed, and the network digest.
+    ///
+    /// # Errors
+    ///
+    /// The refusals of [`plain::marks`] but [`Refusal::BufferTooSmall`].
     pub fn marks(&self, clock: u64) -> Result<Marks, Refusal> {
         let marked = unsafe { plain::marks(&self.state, &self.memory, clock) };
         accepted(marked.number)?;
@@ -152,6 +195,10 @@ impl Node {
     }
 
     /// A snapshot of all nodes held, written to the front of the room.
+    ///
+    /// # Errors
+    ///
+    /// The refusals of [`plain::save`] but [`Refusal::BufferTooSmall`].
     pub fn save<'a>(&self, room: &'a mut SnapshotRoom, clock: u64) -> Result<&'a [u8], Refusal> {
         let saved = unsafe { plain::save(&self.state, &self.memory, room, clock) };
         accepted(saved.number)?;
@@ -159,6 +206,10 @@ impl Node {
     }
 
     /// The data of a node, reachable or not.
+    ///
+    /// # Errors
+    ///
+    /// The refusals of [`plain::show_refusal`] but [`Refusal::BufferTooSmall`].
     pub fn show(&self, node: u32) -> Result<&[u8], Refusal> {
         accepted(unsafe { plain::show_refusal(&self.state, &self.memory, node) })?;
         let part = unsafe { plain::show(&self.state, &self.memory, node) };
@@ -212,14 +263,18 @@ pub struct Total {
 pub struct Marks {
     count: usize,
     nodes: [u32; MOST_NODES],
-    /// The network digest.
-    pub digest: [u8; 16],
+    digest: [u8; 16],
 }
 
 impl Marks {
     /// Their identifiers, ascending.
     pub fn nodes(&self) -> &[u32] {
         &self.nodes[..self.count]
+    }
+
+    /// The network digest.
+    pub fn digest(&self) -> [u8; 16] {
+        self.digest
     }
 }
 

@@ -7,32 +7,33 @@
 //! The library owns nothing: no memory, no clock, no radio, no random numbers. A host
 //!
 //! - starts from the blank state, and hands each call the state and the table memory just as the
-//!   last call left them. That is the one premise of the proofs. It   holds for refused calls too,
-//!   so nothing has to be checked before a call;
+//!   last call left them. That is the one premise of the proofs. It holds for refused calls too, so
+//!   nothing has to be checked before a call;
 //! - lends [`TABLE_BYTES`] of table memory to every call, [`MOST_BYTES`] of room to receive and
 //!   tick, [`SNAPSHOT_BYTES`] to save. More is fine, less is refused with
 //!   [`Refusal::BufferTooSmall`]. Buffers lent to one call don't overlap;
-//! - gives each box an identifier of its own: two boxes with one identifier replace each other's
-//!   payments;
+//! - gives each box an identifier of its own, for good: two boxes with one identifier replace each
+//!   other's payments, and so does a box that begins anew under the one that it had;
 //! - gives one random number for each endpoint with every call that changes state, new ones each
 //!   time;
 //! - gives the clock in milliseconds, never lower than before;
 //! - ticks every endpoint, 1 to [`MOST_ENDPOINTS`], again and again, some ten times a second: the
-//!   shortest interval between two sendings is [`LEAST_INTERVAL`]. What a   tick writes goes out by
+//!   shortest interval between two sendings is [`LEAST_INTERVAL`]. What a tick writes goes out by
 //!   multicast on that endpoint;
 //! - hands each datagram to receive, with the endpoint that it came on and whether it came by
-//!   unicast. What receive writes goes back by unicast to where the   datagram came from, on the
-//!   same endpoint;
+//!   unicast. What receive writes goes back by unicast to where the datagram came from, on the same
+//!   endpoint;
 //! - saves after each accepted payment before anything is sent, and keeps that snapshot over a loss
-//!   of power. A node that resumes from an older one takes the   payments since back everywhere.
+//!   of power: whole or not at all, and with a checksum, for a snapshot has none. A node that
+//!   resumes from an older one takes the payments since back everywhere.
 //!
 //! An answer's number is 0 for an accepted call, else why it is refused: the first in the order
 //! given with each call that applies. A refused call gives 0 in all other fields, hands back the
 //! state that came in, and writes to no buffer. Of an accepted call, the bytes of a buffer beyond
 //! what is written stay.
 //!
-//! A node is a box, a snapshot its saved book. A node is reachable when a chain of nodes that name
-//! each other as peers leads from ours to it.
+//! Calls on different states may run at the same time. A node is a box, a snapshot its saved book.
+//! A node is reachable when a chain of nodes that name each other as peers leads from ours to it.
 //!
 //! Written by tools/bindings from the Rattle source.
 
@@ -109,6 +110,7 @@ pub const MOST_HOUSEHOLD: u32 = 9999;
 
 /// Why a call is refused: a number of document 01, and its words.
 #[repr(u32)]
+#[non_exhaustive]
 #[derive(Clone, Copy, Debug, PartialEq, Eq, Hash)]
 pub enum Refusal {
     /// Clock above 2^62 - 1.
@@ -637,7 +639,9 @@ pub unsafe fn tick(
     }
 }
 
-/// Puts a payment, in cents, into our data and publishes it. Save before anything is sent.
+/// Puts a payment, in cents, into our data, where it takes 8, 12 or 16 bytes, and publishes it.
+/// Save before anything is sent. Only the same household, receipt and amount together are the same
+/// payment.
 ///
 /// Refusals in order: [`Refusal::ClockTooHigh`], [`Refusal::ClockBack`],
 /// [`Refusal::BufferTooSmall`], [`Refusal::NoSuchHousehold`], [`Refusal::PaidAlready`],

@@ -131,7 +131,8 @@ pub extern "C" fn pingvratha_tick(
     upkeep::tick::tick(state, memory, room, clock, endpoint, *randoms)
 }
 
-// Puts a payment, in cents, into our data and publishes it. Save before anything is sent.
+// Puts a payment, in cents, into our data, where it takes 8, 12 or 16 bytes, and publishes it. Save before anything is sent. Only the same household, receipt
+// and amount together are the same payment.
 #[no_mangle]
 pub extern "C" fn pingvratha_pay(
     state: State,
