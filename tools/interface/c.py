@@ -4,6 +4,11 @@ import re
 from interface.source import LENT, SLICES, WIDTH, Field, array, wrapped
 
 TYPES = {'bool': 'bool', 'u8': 'uint8_t', 'u16': 'uint16_t', 'u32': 'uint32_t', 'u64': 'uint64_t', 'i32': 'int32_t', 'i64': 'int64_t', 'usize': 'size_t'}
+ABOUT = [
+    'Most hosts need the calls on a node alone, pingvratha_node_begin and so on, at the end. Link libpingvratha.a.',
+    '',
+    'Written by tools/bindings from the Rattle source.',
+]
 OPENING = """#ifndef PINGVRATHA_H
 #define PINGVRATHA_H
 
@@ -83,8 +88,7 @@ class Header:
         self.calls = re.compile(rf'\b({"|".join(c.name for c in interface.calls if "_" in c.name)})\b')
 
     def lines(self):
-        structs = [s.name for s in self.i.structs]
-        yield from self.comment([*self.i.about, '', 'Most hosts need the calls on a node alone, pingvratha_node_begin and so on, at the end.', 'Link libpingvratha.a.', '', 'Written by tools/bindings from the Rattle source.'])
+        yield from self.comment([*self.i.about, '', *ABOUT])
         yield from [*OPENING.split('\n'), *self.version(), *self.figures(), *self.numbers(), '', '/* ---- The state. */']
         for struct in self.i.structs:
             yield from self.struct(struct.name.lower(), struct.doc, struct.fields)

@@ -1,6 +1,8 @@
 //! Two nodes in one process: they meet and come level, one takes a payment and saves it, loses
 //! power and goes on. Prints what host/level.c prints.
 
+#![forbid(unsafe_code)]
+
 use pingvratha::{
     Node, Randoms, Refusal, Room, SnapshotRoom, ENDPOINTS, MOST_BYTES, SNAPSHOT_BYTES,
 };

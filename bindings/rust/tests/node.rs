@@ -1,5 +1,7 @@
 //! What a node refuses, and what it is as a value.
 
+#![forbid(unsafe_code)]
+
 use pingvratha::{
     Node, Refusal, DATA_LIMIT, LAST_READING, MOST_BYTES, MOST_ENDPOINTS, MOST_HOUSEHOLD,
     SNAPSHOT_BYTES,
