@@ -1,5 +1,5 @@
 /* Two nodes in one process: they meet and come level, one takes a payment and saves it, loses power
- * and goes on. In C and in C++. */
+ * and goes on, and at last is gone. In C and in C++. */
 #include <inttypes.h>
 #include <stdio.h>
 #include <stdlib.h>
@@ -44,17 +44,15 @@ static void deliver(int to, const uint8_t *datagram, size_t length) {
     }
 }
 
-/* A twentieth of a second passes. */
-static void pass(void) {
-    reading += 50;
-    for (int from = 0; from < 2; from++)
-        for (uint32_t endpoint = 1; endpoint <= PINGVRATHA_MOST_ENDPOINTS; endpoint++) {
-            pingvratha_node_sent sent = pingvratha_node_tick(
-                &nodes[from], &rooms[from], reading, endpoint, draw());
-            expect(sent.number);
-            if (endpoint == 1)
-                deliver(1 - from, rooms[from].bytes, sent.length);
-        }
+/* What is due at a node; the other hears it unless it is gone. */
+static void tick(int from, bool alone) {
+    for (uint32_t endpoint = 1; endpoint <= PINGVRATHA_MOST_ENDPOINTS; endpoint++) {
+        pingvratha_node_sent sent = pingvratha_node_tick(
+            &nodes[from], &rooms[from], reading, endpoint, draw());
+        expect(sent.number);
+        if (endpoint == 1 && !alone)
+            deliver(1 - from, rooms[from].bytes, sent.length);
+    }
 }
 
 /* Both reach both, and hold the same. */
@@ -69,16 +67,33 @@ static bool is_level(void) {
 
 static void come_level(void) {
     uint64_t start = reading;
-    while (!is_level())
-        pass();
+    while (!is_level()) {
+        reading += 50;
+        tick(0, false);
+        tick(1, false);
+    }
     printf("level after %" PRIu64 " ms\n", reading - start);
 }
 
-static void print_total(int at) {
+static void print_totals(int at) {
     pingvratha_summed total = pingvratha_node_total(&nodes[at], reading, 17);
+    pingvratha_summed sum = pingvratha_node_sum(&nodes[at], reading);
+    pingvratha_extent data = pingvratha_node_show(&nodes[at], 7);
     expect(total.number);
-    printf("box %" PRIu32 ": household 17 has %" PRId64 " cents\n",
-           nodes[at].state.own, total.value);
+    expect(sum.number);
+    expect(pingvratha_node_show_refusal(&nodes[at], 7));
+    printf("box %" PRIu32 ": household 17 has %" PRId64 " cents, all have %" PRId64
+           "; %zu bytes of box 7\n",
+           nodes[at].state.own, total.value, sum.value, data.length);
+}
+
+/* A minute without the other: it is out of reach, and its data stay until they are dropped. */
+static void go_on_alone(int at) {
+    for (uint64_t end = reading + 60000; reading < end; reading += 50)
+        tick(at, true);
+    print_totals(at);
+    expect(pingvratha_node_purge(&nodes[at], reading, draw()));
+    printf("purged: %s\n", pingvratha_words(pingvratha_node_show_refusal(&nodes[at], 7)));
 }
 
 int main(void) {
@@ -94,12 +109,13 @@ int main(void) {
     uint32_t again = pingvratha_node_pay(&nodes[0], reading, 17, 4711, 1250, draw());
     printf("paid again: %s\n", pingvratha_words(again));
     come_level();
-    print_total(1);
+    print_totals(1);
 
     pingvratha_node_blank(&nodes[0]);
     expect(pingvratha_node_resume(&nodes[0], book.bytes, saved.length, reading, draw()));
-    print_total(0);
+    print_totals(0);
     come_level();
-    print_total(1);
+    print_totals(1);
+    go_on_alone(1);
     return 0;
 }

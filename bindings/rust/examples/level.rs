@@ -1,5 +1,5 @@
 //! Two nodes in one process: they meet and come level, one takes a payment and saves it, loses
-//! power and goes on. Prints what host/level.c prints.
+//! power and goes on, and at last is gone. Prints what host/level.c prints.
 
 #![forbid(unsafe_code)]
 
@@ -38,17 +38,14 @@ impl Link {
         Ok(())
     }
 
-    /// A twentieth of a second passes.
-    fn pass(&mut self) -> Result<(), Refusal> {
-        self.reading += 50;
-        for from in 0..2 {
-            for endpoint in ENDPOINTS {
-                let randoms = self.draw();
-                let (node, room) = (&mut self.nodes[from], &mut self.rooms[from]);
-                let sent = node.tick(room, self.reading, endpoint, &randoms)?.to_vec();
-                if endpoint == 1 {
-                    self.deliver(1 - from, sent)?;
-                }
+    /// What is due at a node; the other hears it unless it is gone.
+    fn tick(&mut self, from: usize, alone: bool) -> Result<(), Refusal> {
+        for endpoint in ENDPOINTS {
+            let randoms = self.draw();
+            let (node, room) = (&mut self.nodes[from], &mut self.rooms[from]);
+            let sent = node.tick(room, self.reading, endpoint, &randoms)?.to_vec();
+            if endpoint == 1 && !alone {
+                self.deliver(1 - from, sent)?;
             }
         }
         Ok(())
@@ -64,16 +61,38 @@ impl Link {
     fn come_level(&mut self) -> Result<(), Refusal> {
         let start = self.reading;
         while !self.is_level()? {
-            self.pass()?;
+            self.reading += 50;
+            self.tick(0, false)?;
+            self.tick(1, false)?;
         }
         println!("level after {} ms", self.reading - start);
         Ok(())
     }
 
-    fn print_total(&self, at: usize) -> Result<(), Refusal> {
-        let total = self.nodes[at].total(self.reading, 17)?;
-        let own = self.nodes[at].state().own;
-        println!("box {own}: household 17 has {} cents", total.value);
+    fn print_totals(&self, at: usize) -> Result<(), Refusal> {
+        let node = &self.nodes[at];
+        let total = node.total(self.reading, 17)?.value;
+        let sum = node.sum(self.reading)?.value;
+        let (own, data) = (node.state().own, node.show(7)?.len());
+        println!(
+            "box {own}: household 17 has {total} cents, all have {sum}; {data} bytes of box 7"
+        );
+        Ok(())
+    }
+
+    /// A minute without the other: it is out of reach, and its data stay until they are dropped.
+    fn go_on_alone(&mut self, at: usize) -> Result<(), Refusal> {
+        let end = self.reading + 60_000;
+        while self.reading < end {
+            self.tick(at, true)?;
+            self.reading += 50;
+        }
+        self.print_totals(at)?;
+        let randoms = self.draw();
+        self.nodes[at].purge(self.reading, &randoms)?;
+        if let Err(refusal) = self.nodes[at].show(7) {
+            println!("purged: {refusal}");
+        }
         Ok(())
     }
 }
@@ -102,12 +121,13 @@ fn main() -> Result<(), Refusal> {
         println!("paid again: {refusal}");
     }
     link.come_level()?;
-    link.print_total(1)?;
+    link.print_totals(1)?;
 
     link.nodes[0] = Node::new();
     let randoms = link.draw();
     link.nodes[0].resume(kept, link.reading, &randoms)?;
-    link.print_total(0)?;
+    link.print_totals(0)?;
     link.come_level()?;
-    link.print_total(1)
+    link.print_totals(1)?;
+    link.go_on_alone(1)
 }
