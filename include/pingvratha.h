@@ -447,22 +447,24 @@ typedef struct pingvratha_node_sent {
     size_t length; /* bytes to send, at the front of the room */
 } pingvratha_node_sent;
 
-/* The state; of a node of zeros the blank one, for a state of the library has our own entry. */
-static inline pingvratha_state pingvratha_node_state(const pingvratha_node *self) {
-    return self->state.table.count == 0 ? pingvratha_blank() : self->state;
-}
-
 /* As pingvratha_blank, and keeps the state. */
 static inline void pingvratha_node_blank(pingvratha_node *self) {
-    self->state = pingvratha_blank();
+    pingvratha_state state = pingvratha_blank();
+    self->state = state;
+}
+
+/* A node of zeros counts as blank: every state of the library has an entry, our own. */
+static inline bool pingvratha_node_is_zeros(const pingvratha_node *self) {
+    return self->state.table.count == 0;
 }
 
 /* As pingvratha_begin, and keeps the state. */
 PINGVRATHA_ANSWER static inline uint32_t pingvratha_node_begin(
     pingvratha_node *self, uint32_t own, uint64_t clock, pingvratha_randoms randoms) {
+    if (pingvratha_node_is_zeros(self))
+        pingvratha_node_blank(self);
     pingvratha_done answer = pingvratha_begin(
-        pingvratha_node_state(self), self->memory, sizeof self->memory, own, clock,
-        randoms.numbers);
+        self->state, self->memory, sizeof self->memory, own, clock, randoms.numbers);
     self->state = answer.state;
     return answer.number;
 }
@@ -471,9 +473,11 @@ PINGVRATHA_ANSWER static inline uint32_t pingvratha_node_begin(
 PINGVRATHA_ANSWER static inline uint32_t pingvratha_node_resume(
     pingvratha_node *self, const uint8_t *snapshot, size_t snapshot_length, uint64_t clock,
     pingvratha_randoms randoms) {
+    if (pingvratha_node_is_zeros(self))
+        pingvratha_node_blank(self);
     pingvratha_done answer = pingvratha_resume(
-        pingvratha_node_state(self), self->memory, sizeof self->memory, snapshot, snapshot_length,
-        clock, randoms.numbers);
+        self->state, self->memory, sizeof self->memory, snapshot, snapshot_length, clock,
+        randoms.numbers);
     self->state = answer.state;
     return answer.number;
 }
@@ -482,9 +486,11 @@ PINGVRATHA_ANSWER static inline uint32_t pingvratha_node_resume(
 PINGVRATHA_ANSWER static inline pingvratha_node_answer pingvratha_node_receive(
     pingvratha_node *self, pingvratha_room *room, const uint8_t *datagram, size_t datagram_length,
     uint64_t clock, uint32_t endpoint, bool unicast, pingvratha_randoms randoms) {
+    if (pingvratha_node_is_zeros(self))
+        pingvratha_node_blank(self);
     pingvratha_answer answer = pingvratha_receive(
-        pingvratha_node_state(self), self->memory, sizeof self->memory, room->bytes,
-        sizeof room->bytes, datagram, datagram_length, clock, endpoint, unicast, randoms.numbers);
+        self->state, self->memory, sizeof self->memory, room->bytes, sizeof room->bytes, datagram,
+        datagram_length, clock, endpoint, unicast, randoms.numbers);
     self->state = answer.state;
     pingvratha_node_answer rest;
     rest.number = answer.number;
@@ -498,9 +504,11 @@ PINGVRATHA_ANSWER static inline pingvratha_node_answer pingvratha_node_receive(
 PINGVRATHA_ANSWER static inline pingvratha_node_sent pingvratha_node_tick(
     pingvratha_node *self, pingvratha_room *room, uint64_t clock, uint32_t endpoint,
     pingvratha_randoms randoms) {
+    if (pingvratha_node_is_zeros(self))
+        pingvratha_node_blank(self);
     pingvratha_sent answer = pingvratha_tick(
-        pingvratha_node_state(self), self->memory, sizeof self->memory, room->bytes,
-        sizeof room->bytes, clock, endpoint, randoms.numbers);
+        self->state, self->memory, sizeof self->memory, room->bytes, sizeof room->bytes, clock,
+        endpoint, randoms.numbers);
     self->state = answer.state;
     pingvratha_node_sent rest;
     rest.number = answer.number;
@@ -512,9 +520,11 @@ PINGVRATHA_ANSWER static inline pingvratha_node_sent pingvratha_node_tick(
 PINGVRATHA_ANSWER static inline uint32_t pingvratha_node_pay(
     pingvratha_node *self, uint64_t clock, uint32_t household, uint32_t receipt, int32_t amount,
     pingvratha_randoms randoms) {
+    if (pingvratha_node_is_zeros(self))
+        pingvratha_node_blank(self);
     pingvratha_done answer = pingvratha_pay(
-        pingvratha_node_state(self), self->memory, sizeof self->memory, clock, household, receipt,
-        amount, randoms.numbers);
+        self->state, self->memory, sizeof self->memory, clock, household, receipt, amount,
+        randoms.numbers);
     self->state = answer.state;
     return answer.number;
 }
@@ -522,8 +532,10 @@ PINGVRATHA_ANSWER static inline uint32_t pingvratha_node_pay(
 /* As pingvratha_purge, and keeps the state. */
 PINGVRATHA_ANSWER static inline uint32_t pingvratha_node_purge(
     pingvratha_node *self, uint64_t clock, pingvratha_randoms randoms) {
+    if (pingvratha_node_is_zeros(self))
+        pingvratha_node_blank(self);
     pingvratha_done answer = pingvratha_purge(
-        pingvratha_node_state(self), self->memory, sizeof self->memory, clock, randoms.numbers);
+        self->state, self->memory, sizeof self->memory, clock, randoms.numbers);
     self->state = answer.state;
     return answer.number;
 }
@@ -532,40 +544,48 @@ PINGVRATHA_ANSWER static inline uint32_t pingvratha_node_purge(
 PINGVRATHA_ANSWER static inline pingvratha_summed pingvratha_node_total(
     const pingvratha_node *self, uint64_t clock, uint32_t household) {
     return pingvratha_total(
-        pingvratha_node_state(self), self->memory, sizeof self->memory, clock, household);
+        pingvratha_node_is_zeros(self) ? pingvratha_blank() : self->state, self->memory,
+        sizeof self->memory, clock, household);
 }
 
 /* As pingvratha_sum. */
 PINGVRATHA_ANSWER static inline pingvratha_summed pingvratha_node_sum(
     const pingvratha_node *self, uint64_t clock) {
-    return pingvratha_sum(pingvratha_node_state(self), self->memory, sizeof self->memory, clock);
+    return pingvratha_sum(
+        pingvratha_node_is_zeros(self) ? pingvratha_blank() : self->state, self->memory,
+        sizeof self->memory, clock);
 }
 
 /* As pingvratha_marks. */
 PINGVRATHA_ANSWER static inline pingvratha_marked pingvratha_node_marks(
     const pingvratha_node *self, uint64_t clock) {
-    return pingvratha_marks(pingvratha_node_state(self), self->memory, sizeof self->memory, clock);
+    return pingvratha_marks(
+        pingvratha_node_is_zeros(self) ? pingvratha_blank() : self->state, self->memory,
+        sizeof self->memory, clock);
 }
 
 /* As pingvratha_save. */
 PINGVRATHA_ANSWER static inline pingvratha_saved pingvratha_node_save(
     const pingvratha_node *self, pingvratha_snapshot *snapshot, uint64_t clock) {
     return pingvratha_save(
-        pingvratha_node_state(self), self->memory, sizeof self->memory, snapshot->bytes,
-        sizeof snapshot->bytes, clock);
+        pingvratha_node_is_zeros(self) ? pingvratha_blank() : self->state, self->memory,
+        sizeof self->memory, snapshot->bytes, sizeof snapshot->bytes, clock);
 }
 
 /* As pingvratha_show. */
 PINGVRATHA_ANSWER static inline pingvratha_extent pingvratha_node_show(
     const pingvratha_node *self, uint32_t node) {
-    return pingvratha_show(pingvratha_node_state(self), self->memory, sizeof self->memory, node);
+    return pingvratha_show(
+        pingvratha_node_is_zeros(self) ? pingvratha_blank() : self->state, self->memory,
+        sizeof self->memory, node);
 }
 
 /* As pingvratha_show_refusal. */
 PINGVRATHA_ANSWER static inline uint32_t pingvratha_node_show_refusal(
     const pingvratha_node *self, uint32_t node) {
     return pingvratha_show_refusal(
-        pingvratha_node_state(self), self->memory, sizeof self->memory, node);
+        pingvratha_node_is_zeros(self) ? pingvratha_blank() : self->state, self->memory,
+        sizeof self->memory, node);
 }
 
 /* ---- Where a layout is not the library's, this does not compile. */

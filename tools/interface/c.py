@@ -37,10 +37,10 @@ NODES = """
  * writes to it. They answer what the plain calls answer, without the state. A datagram or a snapshot
  * that is read stands neither in the node nor in the room. */
 """
-STATE = """
-/* The state; of a node of zeros the blank one, for a state of the library has our own entry. */
-static inline pingvratha_state pingvratha_node_state(const pingvratha_node *self) {
-    return self->state.table.count == 0 ? pingvratha_blank() : self->state;
+ZEROS = """
+/* A node of zeros counts as blank: every state of the library has an entry, our own. */
+static inline bool pingvratha_node_is_zeros(const pingvratha_node *self) {
+    return self->state.table.count == 0;
 }"""
 LAYOUTS = """
 /* ---- Where a layout is not the library's, this does not compile. */
@@ -96,9 +96,10 @@ class Header:
                 yield from ['', '/* ---- The answers. */']
         yield from ['', '/* ---- Calls that change state. */', *self.plain(True)]
         yield from ['', '/* ---- Calls that show, sum or save. They change nothing, the last reading included. */', *self.plain(False)]
-        yield from [*NODES.rstrip().split('\n'), *self.node_types(), *STATE.split('\n')]
+        yield from [*NODES.rstrip().split('\n'), *self.node_types()]
         for call in self.i.calls:
             yield from self.node_call(call)
+            yield from ZEROS.split('\n') if call.result == 'State' else ()
         yield from [*LAYOUTS.split('\n'), *self.layouts(), *CLOSING.split('\n')]
 
     def comment(self, lines, indent=''):
@@ -207,7 +208,7 @@ class Header:
     def arguments(self, call):
         for p in call.params:
             if p.type == 'State':
-                yield 'pingvratha_node_state(self)'
+                yield 'self->state' if call.changes else 'pingvratha_node_is_zeros(self) ? pingvratha_blank() : self->state'
             elif p.name == 'memory':
                 yield from ('self->memory', 'sizeof self->memory')
             elif p in call.lent():
@@ -227,8 +228,10 @@ class Header:
         if not call.changes:
             yield from called(f'return {plain}', arguments, ');', '    ')
         elif result == 'void':
-            yield from called(f'self->state = {plain}', arguments, ');', '    ')
+            # A local of its own, so that compilers use its place again.
+            yield from [*called(f'pingvratha_state state = {plain}', arguments, ');', '    '), '    self->state = state;']
         else:
+            yield from ['    if (pingvratha_node_is_zeros(self))', '        pingvratha_node_blank(self);']
             yield from called(f'{self.type(call.result)} answer = {plain}', arguments, ');', '    ')
             yield from ['    self->state = answer.state;', *self.rest(result, self.i.named[call.result].besides_state())]
         yield '}'
