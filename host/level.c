@@ -98,6 +98,7 @@ static void go_on_alone(int at) {
 
 int main(void) {
     static pingvratha_snapshot book;
+    printf("blank: %zu node in reach\n", pingvratha_node_marks(&nodes[0], reading).count);
     for (int at = 0; at < 2; at++)
         expect(pingvratha_node_begin(&nodes[at], 7 + (uint32_t)at, reading, draw()));
     come_level();

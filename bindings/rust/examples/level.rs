@@ -104,6 +104,8 @@ fn main() -> Result<(), Refusal> {
         reading: 1000,
         seed: 1,
     };
+    let marks = link.nodes[0].marks(link.reading)?;
+    println!("blank: {} node in reach", marks.nodes().len());
     for (at, own) in [(0, 7), (1, 8)] {
         let randoms = link.draw();
         link.nodes[at].begin(own, link.reading, &randoms)?;
