@@ -171,7 +171,7 @@ class Header:
     # calls on a node
 
     def node_types(self):
-        yield from self.struct('node', ['State and table memory of one node.'], [Field([], 'state', 'State'), Field([], 'memory', '[u8; TABLE_BYTES]')])
+        yield from self.struct('node', ['State and table memory of one node.'], [Field([], 'state', 'State'), Field([], 'memory', f'[u8; {LENT["memory"]}]')])
         for p in {p.name: p for call in self.i.calls for p in call.params if array(p.type)}.values():
             doc = f'The {p.name} of a call, one for each endpoint.'
             yield from self.struct(p.name, [doc], [Field([], 'numbers', p.type.removeprefix('&'))])

@@ -2,6 +2,7 @@
 import re
 import sys
 from dataclasses import dataclass
+from math import prod
 from pathlib import Path
 from textwrap import wrap
 
@@ -62,9 +63,10 @@ def uncommented(comment):
 
 
 def figures():
+    """Each is a number, or a product of figures above it."""
     found, values = [], {}
     for comment, name, kind, value in re.findall(COMMENT + r'pub const (\w+): (\w+) = (.*);', read('crates/model/src/figures.rt')):
-        values[name] = eval(value, {}, values)  # a number, or a product of figures above
+        values[name] = prod(values.get(factor) or int(factor) for factor in value.split(' * '))
         found.append(Figure(uncommented(comment), name, kind, values[name]))
     return found
 
@@ -135,6 +137,8 @@ class Interface:
         for call in self.calls:
             for kind in [*(p.type for p in call.params), call.result]:
                 self.need(kind)
+        if bare := [x.name for x in [*self.figures, *self.structs, *self.calls] if not x.doc]:
+            sys.exit(f'without a comment for hosts: {", ".join(bare)}')
 
     def need(self, kind):
         struct = self.named.get(array(kind)[1] if array(kind) else kind)
