@@ -101,10 +101,11 @@ class Plain:
         refused = f'Refusals in order: {", ".join(call.refusals)}.' if call.refusals else 'Never refused.'
         yield from ['', *self.comment([*call.doc, '', refused])]
         if not call.params:
-            yield from [f'pub fn {call.name}() -> {call.result} {{', f'    raw::pingvratha_{call.name}()', '}']
+            yield from ['#[inline]', f'pub fn {call.name}() -> {call.result} {{', f'    raw::pingvratha_{call.name}()', '}']
             return
         yield from SAFETY.split('\n')
         params = [f'{p.name}: {"&" * (p.type == "State")}{p.type}' for p in call.params]
+        yield '#[inline]'
         yield from called('', f'pub unsafe fn {call.name}', params, f' -> {call.result} {{')
         first, *rest = called('        ', f'raw::pingvratha_{call.name}', [part for p in call.params for part in self.argument(p)], '', 60)
         one = f'    unsafe {{ {first.strip()} }}'

@@ -519,6 +519,7 @@ mod raw {
 /// numbers 0.
 ///
 /// Never refused.
+#[inline]
 pub fn blank() -> State {
     raw::pingvratha_blank()
 }
@@ -531,6 +532,7 @@ pub fn blank() -> State {
 /// # Safety
 ///
 /// State and table memory are as the last call left them.
+#[inline]
 pub unsafe fn begin(
     state: &State,
     memory: &[u8],
@@ -550,6 +552,7 @@ pub unsafe fn begin(
 /// # Safety
 ///
 /// State and table memory are as the last call left them.
+#[inline]
 pub unsafe fn resume(
     state: &State,
     memory: &mut [u8],
@@ -580,6 +583,7 @@ pub unsafe fn resume(
 /// # Safety
 ///
 /// State and table memory are as the last call left them.
+#[inline]
 pub unsafe fn receive(
     state: &State,
     memory: &mut [u8],
@@ -617,6 +621,7 @@ pub unsafe fn receive(
 /// # Safety
 ///
 /// State and table memory are as the last call left them.
+#[inline]
 pub unsafe fn tick(
     state: &State,
     memory: &mut [u8],
@@ -650,6 +655,7 @@ pub unsafe fn tick(
 /// # Safety
 ///
 /// State and table memory are as the last call left them.
+#[inline]
 pub unsafe fn pay(
     state: &State,
     memory: &mut [u8],
@@ -682,6 +688,7 @@ pub unsafe fn pay(
 /// # Safety
 ///
 /// State and table memory are as the last call left them.
+#[inline]
 pub unsafe fn purge(
     state: &State,
     memory: &[u8],
@@ -699,6 +706,7 @@ pub unsafe fn purge(
 /// # Safety
 ///
 /// State and table memory are as the last call left them.
+#[inline]
 pub unsafe fn total(state: &State, memory: &[u8], clock: u64, household: u32) -> Summed {
     unsafe { raw::pingvratha_total(*state, memory.as_ptr(), memory.len(), clock, household) }
 }
@@ -711,6 +719,7 @@ pub unsafe fn total(state: &State, memory: &[u8], clock: u64, household: u32) ->
 /// # Safety
 ///
 /// State and table memory are as the last call left them.
+#[inline]
 pub unsafe fn sum(state: &State, memory: &[u8], clock: u64) -> Summed {
     unsafe { raw::pingvratha_sum(*state, memory.as_ptr(), memory.len(), clock) }
 }
@@ -723,6 +732,7 @@ pub unsafe fn sum(state: &State, memory: &[u8], clock: u64) -> Summed {
 /// # Safety
 ///
 /// State and table memory are as the last call left them.
+#[inline]
 pub unsafe fn marks(state: &State, memory: &[u8], clock: u64) -> Marked {
     unsafe { raw::pingvratha_marks(*state, memory.as_ptr(), memory.len(), clock) }
 }
@@ -735,6 +745,7 @@ pub unsafe fn marks(state: &State, memory: &[u8], clock: u64) -> Marked {
 /// # Safety
 ///
 /// State and table memory are as the last call left them.
+#[inline]
 pub unsafe fn save(state: &State, memory: &[u8], snapshot: &mut [u8], clock: u64) -> Saved {
     unsafe {
         raw::pingvratha_save(
@@ -756,6 +767,7 @@ pub unsafe fn save(state: &State, memory: &[u8], snapshot: &mut [u8], clock: u64
 /// # Safety
 ///
 /// State and table memory are as the last call left them.
+#[inline]
 pub unsafe fn show(state: &State, memory: &[u8], node: u32) -> Extent {
     unsafe { raw::pingvratha_show(*state, memory.as_ptr(), memory.len(), node) }
 }
@@ -767,6 +779,7 @@ pub unsafe fn show(state: &State, memory: &[u8], node: u32) -> Extent {
 /// # Safety
 ///
 /// State and table memory are as the last call left them.
+#[inline]
 pub unsafe fn show_refusal(state: &State, memory: &[u8], node: u32) -> u32 {
     unsafe { raw::pingvratha_show_refusal(*state, memory.as_ptr(), memory.len(), node) }
 }
