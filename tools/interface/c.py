@@ -156,8 +156,7 @@ class Header:
     def plain(self, changes):
         for call in self.i.calls:
             if call.changes == changes:
-                refused = f'Refusals in order: {", ".join(call.refusals)}.' if call.refusals else 'Never refused.'
-                yield from ['', *self.comment([*call.doc, '', refused])]
+                yield from ['', *self.comment(call.full_doc())]
                 yield from called(f'PINGVRATHA_ANSWER {self.type(call.result)} pingvratha_{call.name}', list(self.parameters(call.params)) or ['void'], ');')
 
     def layouts(self):

@@ -98,8 +98,7 @@ class Plain:
         return ['*' * (p.type == 'State') + p.name]
 
     def wrapper(self, call):
-        refused = f'Refusals in order: {", ".join(call.refusals)}.' if call.refusals else 'Never refused.'
-        yield from ['', *self.comment([*call.doc, '', refused])]
+        yield from ['', *self.comment(call.full_doc())]
         if not call.params:
             yield from ['#[inline]', f'pub fn {call.name}() -> {call.result} {{', f'    raw::pingvratha_{call.name}()', '}']
             return

@@ -53,6 +53,10 @@ class Call:
         """What it writes to besides the table memory."""
         return [p for p in self.params if p.type == '&mut [u8]' and p.name != 'memory']
 
+    def full_doc(self):
+        refused = f'Refusals in order: {", ".join(self.refusals)}.' if self.refusals else 'Never refused.'
+        return [*self.doc, '', refused]
+
 
 def read(path):
     return Path(path).read_text(encoding='utf-8')

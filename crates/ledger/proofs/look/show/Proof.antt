@@ -1,7 +1,8 @@
 use borrow.Author.Needs.{needs}
 use native.Mathlib.Omega.{arith}
-use mathlib.Core.Path.{refl, _≡_}
+use mathlib.Core.Path.{refl, ap, _≡_}
 use Prim.Native.Nat.{_+_, _-_}
+use lib.ListN.{take, drop}
 use Rattle.ledger.proofs.look.show.Statement.{statement}
 use Rattle.ledger.proofs.look.show.Tie as tie
 
@@ -22,9 +23,10 @@ part-result-end c = search needs
 
 returns : tie.Need-returns
 returns c =
+    let m = c .before .before .before .before .args .memory .now in
     let x = c .before .before .pingvratha-show in
     let e : x .result .start + x .result .length - x .result .start ≡ x .result .length = omega arith in
-    (x .result, x .ensures, rw e refl, refl, refl)
+    (x .result, x .ensures, ap (λ n. take n (drop (x .result .start) m)) e, refl, refl)
 
 pub show-spec : {M : Type 1} → statement M
 show-spec = tie.close (tie.spec pingvratha-show-requires add-b sub-result part-result-start part-result-end returns)
