@@ -1,5 +1,5 @@
-/* Two nodes in one process: they meet and come level, one takes a payment and saves it, loses power
- * and goes on, and at last is gone. In C and in C++. */
+/* Two nodes in one process: they meet and come level, one chooses how often it is to be heard, takes
+ * a payment and saves it, loses power and goes on, and at last is gone. In C and in C++. */
 #include <inttypes.h>
 #include <stdio.h>
 #include <stdlib.h>
@@ -101,6 +101,11 @@ int main(void) {
     printf("blank: %zu node in reach\n", pingvratha_node_marks(&nodes[0], reading).count);
     for (int at = 0; at < 2; at++)
         expect(pingvratha_node_begin(&nodes[at], 7 + (uint32_t)at, reading, draw()));
+    come_level();
+
+    expect(pingvratha_node_keep_alive(&nodes[0], reading, 1, 5000, draw()));
+    uint32_t never = pingvratha_node_keep_alive(&nodes[0], reading, 1, 0, draw());
+    printf("heard every 5000 ms; every 0 ms: %s\n", pingvratha_words(never));
     come_level();
 
     expect(pingvratha_node_pay(&nodes[0], reading, 17, 4711, 1250, draw()));

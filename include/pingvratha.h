@@ -15,8 +15,9 @@
  *   time;
  * - gives the clock in milliseconds, never lower than before;
  * - ticks every endpoint, 1 to PINGVRATHA_MOST_ENDPOINTS, again and again, some ten times a
- *   second: the shortest interval between two sendings is PINGVRATHA_LEAST_INTERVAL. What a tick
- *   writes goes out by multicast on that endpoint;
+ *   second: Trickle's shortest interval is PINGVRATHA_LEAST_INTERVAL, and a keep-alive that is
+ *   due may have to wait for later ticks. What a tick writes goes out by multicast on that
+ *   endpoint;
  * - hands each datagram to receive, with the endpoint that it came on and whether it came by
  *   unicast. What receive writes goes back by unicast to where the datagram came from, on the
  *   same endpoint;
@@ -59,12 +60,12 @@ extern "C" {
 #define PINGVRATHA_ANSWER
 #endif
 
-#define PINGVRATHA_VERSION "0.3.0"
+#define PINGVRATHA_VERSION "0.4.0"
 #define PINGVRATHA_VERSION_MAJOR 0
-#define PINGVRATHA_VERSION_MINOR 3
+#define PINGVRATHA_VERSION_MINOR 4
 #define PINGVRATHA_VERSION_PATCH 0
 
-/* ---- The figures of document 01. */
+/* ---- The figures of documents 01 and 02. */
 
 /* Nodes held, with our own. */
 #define PINGVRATHA_MOST_NODES 32
@@ -117,8 +118,18 @@ extern "C" {
 /* The largest age that is sent or saved. */
 #define PINGVRATHA_MOST_AGE UINT64_C(4294967295)
 
-/* The interval of a peer that publishes no Keep-Alive TLV for its endpoint. */
-#define PINGVRATHA_USUAL_INTERVAL UINT64_C(20000)
+/* The keep-alive interval, in milliseconds, of an endpoint that publishes no Keep-Alive TLV: a
+ * peer's, and ours at first. */
+#define PINGVRATHA_USUAL_INTERVAL 20000
+
+/* The shortest keep-alive interval that can be chosen. */
+#define PINGVRATHA_LEAST_KEEP_ALIVE 1
+
+/* The longest keep-alive interval that can be chosen. */
+#define PINGVRATHA_MOST_KEEP_ALIVE 600000
+
+/* The longest delay of a keep-alive, in milliseconds. */
+#define PINGVRATHA_MOST_DELAY UINT64_C(100)
 
 /* What a reclaimed sequence number gains. */
 #define PINGVRATHA_RECLAIM_STEP 1000
@@ -126,13 +137,16 @@ extern "C" {
 /* Bytes of a Peer TLV. */
 #define PINGVRATHA_PEER_BYTES 16
 
+/* Bytes of a Keep-Alive TLV. */
+#define PINGVRATHA_KEEP_ALIVE_BYTES 12
+
 /* The first household. */
 #define PINGVRATHA_LEAST_HOUSEHOLD 1
 
 /* The last household. */
 #define PINGVRATHA_MOST_HOUSEHOLD 9999
 
-/* ---- The number of an answer, in the words of document 01. */
+/* ---- The number of an answer, in the words of documents 01 and 02. */
 
 typedef enum pingvratha_number {
     PINGVRATHA_ACCEPTED = 0, /* accepted */
@@ -144,9 +158,11 @@ typedef enum pingvratha_number {
     PINGVRATHA_DATAGRAM_MALFORMED = 6, /* datagram is not a row of whole TLVs with zero padding */
     PINGVRATHA_NO_SUCH_HOUSEHOLD = 7, /* household outside 1 to 9,999 */
     PINGVRATHA_PAID_ALREADY = 8, /* this very payment stands in our data already */
-    PINGVRATHA_DATA_FULL = 9, /* the payment doesn't fit in our 1,024 bytes */
+    /* The payment doesn't fit in our 1,024 bytes, or no room in our data for the TLV. */
+    PINGVRATHA_DATA_FULL = 9,
     PINGVRATHA_NO_SUCH_NODE = 10, /* no such box in the table */
-    PINGVRATHA_NOT_A_SNAPSHOT = 11 /* not a saved book */
+    PINGVRATHA_NOT_A_SNAPSHOT = 11, /* not a saved book */
+    PINGVRATHA_NO_SUCH_INTERVAL = 12 /* an interval of 0 or above 600,000 */
 } pingvratha_number;
 
 /* These words. */
@@ -171,11 +187,13 @@ static inline const char *pingvratha_words(uint32_t number) {
     case PINGVRATHA_PAID_ALREADY:
         return "this very payment stands in our data already";
     case PINGVRATHA_DATA_FULL:
-        return "the payment doesn't fit in our 1,024 bytes";
+        return "the payment doesn't fit in our 1,024 bytes, or no room in our data for the TLV";
     case PINGVRATHA_NO_SUCH_NODE:
         return "no such box in the table";
     case PINGVRATHA_NOT_A_SNAPSHOT:
         return "not a saved book";
+    case PINGVRATHA_NO_SUCH_INTERVAL:
+        return "an interval of 0 or above 600,000";
     default:
         return "no such number";
     }
@@ -228,6 +246,8 @@ typedef struct pingvratha_trickle {
 typedef struct pingvratha_endpoint {
     pingvratha_trickle trickle;
     uint64_t next; /* the reading from which network state may be requested again */
+    uint32_t keep; /* the keep-alive interval, in milliseconds */
+    uint64_t quiet; /* the reading of the last sending plus the delay that was fixed then */
 } pingvratha_endpoint;
 
 /* The state that a call gets and leaves. A host keeps it and need not look into it; node data
@@ -310,7 +330,8 @@ PINGVRATHA_ANSWER pingvratha_done pingvratha_begin(
     uint64_t clock, const uint32_t randoms[PINGVRATHA_MOST_ENDPOINTS]);
 
 /* Goes on from a snapshot, at whatever reading. Our peers are unknown at first, so that only our
- * own node is reachable, and our data are published anew.
+ * own node is reachable, and our data are published anew. Keep-alive intervals are
+ * PINGVRATHA_USUAL_INTERVAL again.
  *
  * Refusals in order: PINGVRATHA_CLOCK_TOO_HIGH, PINGVRATHA_BUFFER_TOO_SMALL,
  * PINGVRATHA_NOT_A_SNAPSHOT. */
@@ -331,8 +352,8 @@ PINGVRATHA_ANSWER pingvratha_answer pingvratha_receive(
 
 /* Does what is due on the endpoint: removes peers that fell silent, publishes our data anew
  * before it is too old, and writes what is to be sent to the front of the room; length 0 means
- * that there is nothing. At one reading a second tick may still have something to do, a third
- * never.
+ * that there is nothing. At one reading a second and a third tick may still have something to
+ * do, a fourth never.
  *
  * Refusals in order: PINGVRATHA_CLOCK_TOO_HIGH, PINGVRATHA_CLOCK_BACK,
  * PINGVRATHA_NO_SUCH_ENDPOINT, PINGVRATHA_BUFFER_TOO_SMALL. */
@@ -340,6 +361,20 @@ PINGVRATHA_ANSWER pingvratha_sent pingvratha_tick(
     pingvratha_state state, uint8_t *memory, size_t memory_length, uint8_t *room,
     size_t room_length, uint64_t clock, uint32_t endpoint,
     const uint32_t randoms[PINGVRATHA_MOST_ENDPOINTS]);
+
+/* Chooses the endpoint's keep-alive interval in milliseconds: when ticks of the endpoint have
+ * sent nothing for so long, and a random delay of up to PINGVRATHA_MOST_DELAY, one sends. Our
+ * data tell it to the peers, who remove us when they have not heard us for 2.1 times as long;
+ * unless it is PINGVRATHA_USUAL_INTERVAL, as at first, it takes 12 bytes. begin and resume set
+ * that one again. With ten ticks a second choose 5000 or more: with a shorter one peers may
+ * remove us though nobody is gone.
+ *
+ * Refusals in order: PINGVRATHA_CLOCK_TOO_HIGH, PINGVRATHA_CLOCK_BACK,
+ * PINGVRATHA_NO_SUCH_ENDPOINT, PINGVRATHA_NO_SUCH_INTERVAL, PINGVRATHA_BUFFER_TOO_SMALL,
+ * PINGVRATHA_DATA_FULL. */
+PINGVRATHA_ANSWER pingvratha_done pingvratha_keep_alive(
+    pingvratha_state state, uint8_t *memory, size_t memory_length, uint64_t clock,
+    uint32_t endpoint, uint32_t interval, const uint32_t randoms[PINGVRATHA_MOST_ENDPOINTS]);
 
 /* Puts a payment, in cents, into our data, where it takes 8, 12 or 16 bytes, and publishes it.
  * Save before anything is sent. Only the same household, receipt and amount together are the
@@ -516,6 +551,18 @@ PINGVRATHA_ANSWER static inline pingvratha_node_sent pingvratha_node_tick(
     return rest;
 }
 
+/* As pingvratha_keep_alive, and keeps the state. */
+PINGVRATHA_ANSWER static inline uint32_t pingvratha_node_keep_alive(
+    pingvratha_node *self, uint64_t clock, uint32_t endpoint, uint32_t interval,
+    pingvratha_randoms randoms) {
+    if (pingvratha_node_is_zeros(self))
+        pingvratha_node_blank(self);
+    pingvratha_done answer = pingvratha_keep_alive(
+        self->state, self->memory, sizeof self->memory, clock, endpoint, interval, randoms.numbers);
+    self->state = answer.state;
+    return answer.number;
+}
+
 /* As pingvratha_pay, and keeps the state. */
 PINGVRATHA_ANSWER static inline uint32_t pingvratha_node_pay(
     pingvratha_node *self, uint64_t clock, uint32_t household, uint32_t receipt, int32_t amount,
@@ -624,29 +671,31 @@ PINGVRATHA_SAME(pingvratha_same_trickle_point, offsetof(pingvratha_trickle, poin
 PINGVRATHA_SAME(pingvratha_same_trickle_interval, offsetof(pingvratha_trickle, interval), 16);
 PINGVRATHA_SAME(pingvratha_same_trickle_count, offsetof(pingvratha_trickle, count), 24);
 PINGVRATHA_SAME(pingvratha_same_trickle_spent, offsetof(pingvratha_trickle, spent), 28);
-PINGVRATHA_SAME(pingvratha_same_endpoint, sizeof(pingvratha_endpoint), 40);
+PINGVRATHA_SAME(pingvratha_same_endpoint, sizeof(pingvratha_endpoint), 56);
 PINGVRATHA_SAME(pingvratha_same_endpoint_trickle, offsetof(pingvratha_endpoint, trickle), 0);
 PINGVRATHA_SAME(pingvratha_same_endpoint_next, offsetof(pingvratha_endpoint, next), 32);
-PINGVRATHA_SAME(pingvratha_same_state, sizeof(pingvratha_state), 1872);
+PINGVRATHA_SAME(pingvratha_same_endpoint_keep, offsetof(pingvratha_endpoint, keep), 40);
+PINGVRATHA_SAME(pingvratha_same_endpoint_quiet, offsetof(pingvratha_endpoint, quiet), 48);
+PINGVRATHA_SAME(pingvratha_same_state, sizeof(pingvratha_state), 1936);
 PINGVRATHA_SAME(pingvratha_same_state_own, offsetof(pingvratha_state, own), 0);
 PINGVRATHA_SAME(pingvratha_same_state_last, offsetof(pingvratha_state, last), 8);
 PINGVRATHA_SAME(pingvratha_same_state_table, offsetof(pingvratha_state, table), 16);
 PINGVRATHA_SAME(pingvratha_same_state_peers, offsetof(pingvratha_state, peers), 1304);
 PINGVRATHA_SAME(pingvratha_same_state_endpoints, offsetof(pingvratha_state, endpoints), 1696);
-PINGVRATHA_SAME(pingvratha_same_state_digest, offsetof(pingvratha_state, digest), 1856);
-PINGVRATHA_SAME(pingvratha_same_done, sizeof(pingvratha_done), 1880);
+PINGVRATHA_SAME(pingvratha_same_state_digest, offsetof(pingvratha_state, digest), 1920);
+PINGVRATHA_SAME(pingvratha_same_done, sizeof(pingvratha_done), 1944);
 PINGVRATHA_SAME(pingvratha_same_done_number, offsetof(pingvratha_done, number), 0);
 PINGVRATHA_SAME(pingvratha_same_done_state, offsetof(pingvratha_done, state), 8);
-PINGVRATHA_SAME(pingvratha_same_answer, sizeof(pingvratha_answer), 1896);
+PINGVRATHA_SAME(pingvratha_same_answer, sizeof(pingvratha_answer), 1960);
 PINGVRATHA_SAME(pingvratha_same_answer_number, offsetof(pingvratha_answer, number), 0);
 PINGVRATHA_SAME(pingvratha_same_answer_state, offsetof(pingvratha_answer, state), 8);
-PINGVRATHA_SAME(pingvratha_same_answer_length, offsetof(pingvratha_answer, length), 1880);
-PINGVRATHA_SAME(pingvratha_same_answer_omitted, offsetof(pingvratha_answer, omitted), 1888);
-PINGVRATHA_SAME(pingvratha_same_answer_dropped, offsetof(pingvratha_answer, dropped), 1892);
-PINGVRATHA_SAME(pingvratha_same_sent, sizeof(pingvratha_sent), 1888);
+PINGVRATHA_SAME(pingvratha_same_answer_length, offsetof(pingvratha_answer, length), 1944);
+PINGVRATHA_SAME(pingvratha_same_answer_omitted, offsetof(pingvratha_answer, omitted), 1952);
+PINGVRATHA_SAME(pingvratha_same_answer_dropped, offsetof(pingvratha_answer, dropped), 1956);
+PINGVRATHA_SAME(pingvratha_same_sent, sizeof(pingvratha_sent), 1952);
 PINGVRATHA_SAME(pingvratha_same_sent_number, offsetof(pingvratha_sent, number), 0);
 PINGVRATHA_SAME(pingvratha_same_sent_state, offsetof(pingvratha_sent, state), 8);
-PINGVRATHA_SAME(pingvratha_same_sent_length, offsetof(pingvratha_sent, length), 1880);
+PINGVRATHA_SAME(pingvratha_same_sent_length, offsetof(pingvratha_sent, length), 1944);
 PINGVRATHA_SAME(pingvratha_same_summed, sizeof(pingvratha_summed), 24);
 PINGVRATHA_SAME(pingvratha_same_summed_number, offsetof(pingvratha_summed, number), 0);
 PINGVRATHA_SAME(pingvratha_same_summed_value, offsetof(pingvratha_summed, value), 8);

@@ -228,6 +228,23 @@ impl Calls for Archive {
         }
     }
 
+    fn keep_alive(
+        &mut self,
+        rooms: &Rooms,
+        clock: u64,
+        endpoint: u32,
+        interval: u32,
+        randoms: &Randoms,
+    ) -> u32 {
+        let before = self.memory.clone();
+        let (state, memory) = (&self.state, &mut self.memory[..rooms.table]);
+        let done = self.depths.of("keep_alive", || unsafe {
+            plain::keep_alive(state, memory, clock, endpoint, interval, randoms)
+        });
+        self.settle(done.number, done.state, &before);
+        done.number
+    }
+
     fn pay(&mut self, rooms: &Rooms, clock: u64, payment: &Payment, randoms: &Randoms) -> u32 {
         let before = self.memory.clone();
         let Payment {

@@ -11,7 +11,7 @@ use network::{equal_states, passed_over, statements, Line, CLOCK, HOUSEHOLD, RAN
 use pingvratha::{Room, SnapshotRoom, MOST_BYTES, SNAPSHOT_BYTES};
 use reference::calls::{Calls, Rooms};
 use reference::generate;
-use reference::node::{Node, REPLY_ROOM, TABLE_ROOM};
+use reference::node::{Node, DEFAULT_KEEP_ALIVE, REPLY_ROOM, TABLE_ROOM};
 use reference::script::Session;
 use reference::sha256::sha256;
 use reference::snapshot::SNAPSHOT_ROOM;
@@ -368,12 +368,17 @@ fn exercise(node: &mut Archive) {
     node.marks(rooms, CLOCK);
     node.save(rooms, CLOCK);
     node.show(rooms, 32);
-    node.tick(rooms, CLOCK + 42_000, 1, &RANDOMS);
+    let later = CLOCK + 42_000;
+    node.tick(rooms, later, 1, &RANDOMS);
+    // The peer is gone. A Keep-Alive TLV takes its place, is replaced, and leaves it to the payment.
+    for interval in [7, 8, DEFAULT_KEEP_ALIVE] {
+        node.keep_alive(rooms, later, 1, interval, &RANDOMS);
+    }
     let payment = Payment {
         household: HOUSEHOLD,
         receipt: 1,
         amount: 1,
     };
-    node.pay(rooms, CLOCK + 42_000, &payment, &RANDOMS);
-    node.purge(rooms, CLOCK + 42_000, &RANDOMS);
+    node.pay(rooms, later, &payment, &RANDOMS);
+    node.purge(rooms, later, &RANDOMS);
 }

@@ -1,5 +1,5 @@
 //! `host sessions`, `host compare SEED COUNT`, `host bench`: the archive and the reference, compared
-//! and measured.
+//! and measured. `host quiet`: nodes on one link, simulated.
 
 #![deny(unsafe_code)]
 
@@ -8,12 +8,14 @@ mod archive;
 mod bench;
 mod compare;
 mod owned;
+mod quiet;
 #[allow(unsafe_code)]
 mod stack;
 mod view;
 
 use archive::Archive;
 use compare::Checked;
+use quiet::Quiet;
 use reference::script::Session;
 use std::io::{self, BufWriter};
 use std::process::ExitCode;
@@ -29,6 +31,10 @@ fn main() -> ExitCode {
             _ => return usage(),
         },
         ["bench"] => bench::run(),
+        ["quiet", asked @ ..] => match quiet_asked(asked) {
+            Some(quiet) => quiet::run(&quiet),
+            None => return usage(),
+        },
         _ => return usage(),
     };
     match result {
@@ -40,10 +46,24 @@ fn main() -> ExitCode {
     }
 }
 
+/// The hours and the interval that are asked for.
+fn quiet_asked(asked: &[&str]) -> Option<Quiet> {
+    let mut quiet = quiet::USUAL;
+    if let [hours, ..] = asked {
+        quiet.hours = hours.parse().ok()?;
+    }
+    if let [_, interval] = asked {
+        quiet.interval = interval.parse().ok()?;
+    }
+    let is_sound = asked.len() <= 2 && (0.0..f64::INFINITY).contains(&quiet.hours);
+    is_sound.then_some(quiet)
+}
+
 fn usage() -> ExitCode {
     eprintln!("usage: host sessions < script > output");
     eprintln!("       host compare SEED COUNT");
     eprintln!("       host bench");
+    eprintln!("       host quiet [HOURS [INTERVAL]]");
     ExitCode::from(2)
 }
 

@@ -51,6 +51,17 @@ impl Calls for Owned {
         written(self.0.tick(&mut room, clock, endpoint, randoms))
     }
 
+    fn keep_alive(
+        &mut self,
+        _: &Rooms,
+        clock: u64,
+        endpoint: u32,
+        interval: u32,
+        randoms: &Randoms,
+    ) -> u32 {
+        number(self.0.keep_alive(clock, endpoint, interval, randoms))
+    }
+
     fn pay(&mut self, _: &Rooms, clock: u64, payment: &Payment, randoms: &Randoms) -> u32 {
         let Payment {
             household,

@@ -43,5 +43,7 @@ fn endpoint_view(endpoint: &Endpoint) -> EndpointView {
         count: trickle.count,
         spent: trickle.spent,
         next_request: endpoint.next,
+        keep: endpoint.keep,
+        quiet: endpoint.quiet,
     }
 }

@@ -44,6 +44,15 @@ pub trait Calls {
 
     fn tick(&mut self, rooms: &Rooms, clock: u64, endpoint: u32, randoms: &Randoms) -> Written;
 
+    fn keep_alive(
+        &mut self,
+        rooms: &Rooms,
+        clock: u64,
+        endpoint: u32,
+        interval: u32,
+        randoms: &Randoms,
+    ) -> u32;
+
     fn pay(&mut self, rooms: &Rooms, clock: u64, payment: &Payment, randoms: &Randoms) -> u32;
 
     fn purge(&mut self, rooms: &Rooms, clock: u64, randoms: &Randoms) -> u32;
@@ -88,7 +97,7 @@ pub struct NodeView<'a> {
     pub digest: Digest,
 }
 
-/// Trickle of one endpoint, and the reading from which it may request again.
+/// Trickle of one endpoint, the reading from which it may request again, its keep-alives.
 #[derive(Clone, Copy, Debug, PartialEq, Eq)]
 pub struct EndpointView {
     pub start: u64,
@@ -97,6 +106,10 @@ pub struct EndpointView {
     pub count: u32,
     pub spent: bool,
     pub next_request: u64,
+    /// The chosen keep-alive interval.
+    pub keep: u32,
+    /// The reading of the last sending plus its delay.
+    pub quiet: u64,
 }
 
 impl Calls for Node {
@@ -125,6 +138,17 @@ impl Calls for Node {
 
     fn tick(&mut self, rooms: &Rooms, clock: u64, endpoint: u32, randoms: &Randoms) -> Written {
         Node::tick(self, rooms.table, rooms.reply, clock, endpoint, randoms)
+    }
+
+    fn keep_alive(
+        &mut self,
+        rooms: &Rooms,
+        clock: u64,
+        endpoint: u32,
+        interval: u32,
+        randoms: &Randoms,
+    ) -> u32 {
+        Node::keep_alive(self, rooms.table, clock, endpoint, interval, randoms)
     }
 
     fn pay(&mut self, rooms: &Rooms, clock: u64, payment: &Payment, randoms: &Randoms) -> u32 {
@@ -194,6 +218,7 @@ impl Calls for Node {
 impl Node {
     fn endpoint_view(&self, index: usize) -> EndpointView {
         let trickle = &self.trickle[index];
+        let keep_alive = &self.keep_alives[index];
         EndpointView {
             start: trickle.start,
             point: trickle.point,
@@ -201,6 +226,8 @@ impl Node {
             count: u32::from(trickle.count),
             spent: trickle.spent,
             next_request: self.next_request[index],
+            keep: keep_alive.keep,
+            quiet: keep_alive.quiet,
         }
     }
 }

@@ -2,9 +2,10 @@
 //!
 //! A script is a succession of episodes. Each begins or resumes the node and then
 //! leads it through one kind of trouble: a mesh of other nodes with a lossy radio,
-//! made-up statements, full tables, full replies, refused calls, damaged snapshots.
-//! The generator runs the node itself as it goes, so that the answers of the node
-//! under test reach the others and datagrams can speak about what it holds.
+//! made-up statements, full tables, full replies, keep-alives, refused calls,
+//! damaged snapshots. The generator runs the node itself as it goes, so that the
+//! answers of the node under test reach the others and datagrams can speak about
+//! what it holds.
 
 mod craft;
 mod mesh;
@@ -47,7 +48,7 @@ impl Generator {
     fn episode(&mut self) {
         let calls = self.random.range(20, 150) as usize;
         let end = self.left.saturating_sub(calls);
-        match self.random.below(15) {
+        match self.random.below(17) {
             0..=4 => mesh::episode(self, end),
             5..=6 => self.statements_episode(end),
             7 => self.full_table_episode(end),
@@ -57,6 +58,7 @@ impl Generator {
             11 => self.tree_episode(end),
             12 => self.quiet_episode(end),
             13 => self.silence_episode(end),
+            14 | 15 => self.keep_alives_episode(end),
             _ => self.snapshots_episode(end),
         }
         self.restore_rooms();
@@ -127,6 +129,31 @@ impl Generator {
         self.call(&format!("tick {} {endpoint} {randoms}", self.clock))
     }
 
+    /// Chooses an interval, often the one that stands, for an endpoint that may be none.
+    fn keep_alive(&mut self) {
+        let endpoint = self.random.pick(&[0, 1, 1, 1, 1, 2, 2, 3, 4, 5]);
+        let chosen = self.session.node.keep_alives[endpoint.clamp(1, 4) - 1].keep;
+        let interval = if self.random.one_in(6) {
+            chosen
+        } else {
+            craft::interval(&mut self.random)
+        };
+        let randoms = self.randoms();
+        self.call(&format!(
+            "keep-alive {} {endpoint} {interval} {randoms}",
+            self.clock
+        ));
+    }
+
+    /// A choice with too little table memory.
+    fn keep_alive_without_room(&mut self) {
+        let mut rooms = Rooms::default();
+        rooms.table = self.random.pick(&[0, 100, rooms.table - 1]);
+        self.set_rooms(rooms);
+        self.keep_alive();
+        self.restore_rooms();
+    }
+
     fn pay(&mut self) {
         let randoms = self.randoms();
         let payment = craft::payment(&mut self.random);
@@ -191,6 +218,10 @@ impl Generator {
     }
 
     fn advance(&mut self) {
+        if self.random.one_in(25) {
+            let endpoint = self.endpoint();
+            return self.wait_for_keep_alive(endpoint);
+        }
         let step = match self.random.below(40) {
             0..=9 => 0,
             10..=24 => self.random.below(150),
@@ -201,6 +232,13 @@ impl Generator {
             _ => self.leap(),
         };
         self.clock = (self.clock + step).min(CLOCK_MAX);
+    }
+
+    /// Waits until just before, at or just after the reading from which a keep-alive is due.
+    fn wait_for_keep_alive(&mut self, endpoint: u32) {
+        let due = self.session.node.keep_alives[endpoint as usize - 1].due();
+        let late = self.random.pick(&[0, 1, 1, 1, 2]);
+        self.clock = (due + late - 1).clamp(self.clock, CLOCK_MAX);
     }
 
     /// A leap of the clock, often to where an age limit is just reached.
@@ -430,6 +468,20 @@ impl Generator {
         self.choose_universe(size);
     }
 
+    /// Power is lost and comes back; the snapshot may be an old one.
+    fn restart(&mut self) {
+        if self.random.one_in(2) {
+            self.call(&format!("save {}", self.clock));
+        }
+        let own = self.session.node.own;
+        if self.random.one_in(3) {
+            self.begin(own);
+        } else {
+            let randoms = self.randoms();
+            self.call(&format!("resume {} {randoms} last", self.clock));
+        }
+    }
+
     // Episodes. Each ends when no more than `end` calls are left.
 
     /// Made-up statements about a handful of nodes, with peers, requests and ticks between.
@@ -439,7 +491,7 @@ impl Generator {
         self.gain_peers(3);
         while self.left > end {
             self.advance();
-            match self.random.below(12) {
+            match self.random.below(13) {
                 0..=6 => {
                     let datagram = self.datagram(6);
                     let endpoint = self.endpoint();
@@ -452,6 +504,7 @@ impl Generator {
                 }
                 9 => self.pay(),
                 10 if self.random.one_in(3) => self.purge(),
+                12 => self.keep_alive(),
                 _ => self.look(),
             }
         }
@@ -463,7 +516,7 @@ impl Generator {
         self.gain_peers(19);
         while self.left > end {
             self.advance();
-            match self.random.below(8) {
+            match self.random.below(9) {
                 0..=3 => {
                     let datagram = self.crowd();
                     let endpoint = self.endpoint();
@@ -478,6 +531,7 @@ impl Generator {
                     let endpoint = self.endpoint();
                     self.tick(endpoint);
                 }
+                8 if self.random.one_in(2) => self.keep_alive(),
                 _ => self.look(),
             }
         }
@@ -547,6 +601,7 @@ impl Generator {
                     self.tick(endpoint);
                 }
                 8 if self.random.one_in(5) => self.purge(),
+                11 if self.random.one_in(2) => self.keep_alive(),
                 _ => self.look(),
             }
         }
@@ -591,18 +646,61 @@ impl Generator {
                 };
             let early = self.random.pick(&[0, 0, 0, 1]);
             self.clock = (due - early).clamp(self.clock, CLOCK_MAX);
-            match self.random.below(20) {
+            if self.random.one_in(6) {
+                self.wait_for_keep_alive(endpoint);
+            }
+            match self.random.below(21) {
                 0..=14 => drop(self.tick(endpoint)),
-                15..=17 => {
-                    let copies = self.random.pick(&[1, 1, 2, 100, 204]);
-                    let digest = self.session.node.network_digest(self.clock);
-                    let datagram = wire::network_state_tlv(&digest).repeat(copies);
-                    let multicast = !self.random.one_in(4);
-                    self.receive(endpoint, multicast, &datagram);
-                }
+                15..=17 => self.hear_equal(endpoint),
                 18 => self.gain_peers(1),
+                19 => self.keep_alive(),
                 _ => self.look(),
             }
+        }
+    }
+
+    /// An equal digest, often very many times: over multicast it silences Trickle.
+    fn hear_equal(&mut self, endpoint: u32) {
+        let copies = self.random.pick(&[1, 1, 2, 100, 204]);
+        let digest = self.session.node.network_digest(self.clock);
+        let datagram = wire::network_state_tlv(&digest).repeat(copies);
+        let multicast = !self.random.one_in(4);
+        self.receive(endpoint, multicast, &datagram);
+    }
+
+    /// Chosen intervals, silenced Trickle, and ticks just before, at and just after the
+    /// readings from which keep-alives are due, up to four at one reading.
+    fn keep_alives_episode(&mut self, end: usize) {
+        self.start_among(4);
+        while self.left > end {
+            let endpoint = self.random.pick(&[1, 1, 1, 2]);
+            match self.random.below(14) {
+                0 | 1 => self.keep_alive(),
+                2..=4 => self.hear_equal(endpoint),
+                5 => self.gain_peers(1),
+                6 if self.random.one_in(2) => self.pay(),
+                6 => self.pass_intervals(endpoint),
+                7 if self.random.one_in(2) => self.restart(),
+                7 => self.look(),
+                8 if self.random.one_in(3) => self.keep_alive_without_room(),
+                8 => self.advance(),
+                _ => {
+                    self.wait_for_keep_alive(endpoint);
+                    for _ in 0..self.random.range(1, 4) {
+                        self.tick(endpoint);
+                    }
+                }
+            }
+        }
+    }
+
+    /// Leads Trickle of an endpoint through some intervals, each longer than the last.
+    fn pass_intervals(&mut self, endpoint: u32) {
+        for _ in 0..self.random.range(2, 8) {
+            let trickle = self.session.node.trickle[endpoint as usize - 1];
+            self.clock = (trickle.start + trickle.interval).clamp(self.clock, CLOCK_MAX);
+            self.tick(endpoint);
+            self.tick(endpoint);
         }
     }
 
@@ -682,7 +780,7 @@ impl Generator {
         self.choose_universe(6);
         while self.left > end {
             self.advance();
-            match self.random.below(8) {
+            match self.random.below(11) {
                 0..=2 => self.pay(),
                 3 => self.gain_peers(1),
                 4 | 5 => {
@@ -699,6 +797,7 @@ impl Generator {
                     let endpoint = self.endpoint();
                     self.tick(endpoint);
                 }
+                7..=9 => self.keep_alive(),
                 _ => self.look(),
             }
         }
@@ -798,7 +897,7 @@ impl Generator {
         let endpoint = self.random.pick(&[0, 1, 2, 3, 4, 5, u32::MAX, 1, 1]);
         let randoms = self.randoms();
         let clock = self.clock;
-        match self.random.below(14) {
+        match self.random.below(16) {
             0 => {
                 let own = self.choose_own();
                 self.call(&format!("begin {own} {clock} {randoms}"));
@@ -845,6 +944,12 @@ impl Generator {
                 let name = self.random.pick(&["sum", "marks", "save"]);
                 self.call(&format!("{name} {clock}"));
             }
+            13 | 14 => {
+                let interval = craft::interval(&mut self.random);
+                self.call(&format!(
+                    "keep-alive {clock} {endpoint} {interval} {randoms}"
+                ));
+            }
             _ => {
                 let node = self.some_node();
                 self.call(&format!("show {node}"));
@@ -872,6 +977,11 @@ impl Generator {
             "rooms 40001 4096 33319",
             "State",
             "forget 5 0 0 0 0",
+            "keep-alive 5 1 4294967296 0 0 0 0",
+            "keep-alive 5 4294967296 7 0 0 0 0",
+            "keep-alive 5 1 -1 0 0 0 0",
+            "keep-alive 5 1 7 0 0 0",
+            "keep_alive 5 1 7 0 0 0 0",
         ]);
         self.extra(line);
     }
@@ -882,7 +992,7 @@ impl Generator {
         self.gain_peers(3);
         while self.left > end {
             self.advance();
-            match self.random.below(9) {
+            match self.random.below(11) {
                 0 | 1 => {
                     let datagram = self.crowd();
                     self.receive(1, false, &datagram);
@@ -912,6 +1022,7 @@ impl Generator {
                 }
                 5 => self.pay(),
                 6 => self.gain_peers(1),
+                7 | 8 => self.keep_alive(),
                 _ => self.look(),
             }
             // A refused resume at an earlier reading leaves the later one standing.

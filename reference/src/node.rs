@@ -35,8 +35,12 @@ const COUNT_MAX: u8 = 255;
 pub const AGE_LIMIT: u64 = (1 << 32) - (1 << 15);
 /// From this age on, we republish our own data.
 pub const REPUBLISH_AGE: u64 = (1 << 32) - (1 << 16);
-/// Keep-alive interval of a peer that publishes none for its endpoint.
-const DEFAULT_KEEP_ALIVE: u32 = 20_000;
+/// Keep-alive interval of an endpoint for which no other is published, a peer's or ours.
+pub const DEFAULT_KEEP_ALIVE: u32 = 20_000;
+/// The longest keep-alive interval that we may choose; the shortest is 1.
+pub const KEEP_ALIVE_MAX: u32 = 600_000;
+/// How many delays of a keep-alive there are: 0 to half of the shortest Trickle interval.
+const DELAYS: u64 = INTERVAL_MIN / 2 + 1;
 /// Added to a received sequence number when we reclaim our identifier.
 const RECLAIM_STEP: u32 = 1_000;
 
@@ -92,9 +96,10 @@ impl Entry {
         self.data = data;
     }
 
-    /// Drops every type 8 TLV, of any length.
-    pub(crate) fn drop_peer_tlvs(&mut self) {
-        self.set_data(wire::without(&self.data, |tlv| tlv.kind == wire::PEER));
+    /// Drops every TLV of type 8 and 9, of any length and for any endpoint.
+    pub(crate) fn drop_endpoint_tlvs(&mut self) {
+        let kinds = [wire::PEER, wire::KEEP_ALIVE];
+        self.set_data(wire::without(&self.data, |tlv| kinds.contains(&tlv.kind)));
     }
 
     /// New sequence number with age 0.
@@ -168,17 +173,60 @@ impl Trickle {
         }
     }
 
-    /// At most one event; tells whether to send.
-    fn step(&mut self, now: u64, random: u32) -> bool {
+    /// A keep-alive goes out: a new interval as long as this one.
+    fn restart(&mut self, now: u64, random: u32) {
+        *self = Trickle::fresh(now, self.interval, random);
+    }
+
+    /// At most one event.
+    fn step(&mut self, now: u64, random: u32) -> Event {
         if !self.spent && now >= self.start + self.point {
             self.spent = true;
-            return self.count < 1;
+            return if self.count < 1 {
+                Event::Send
+            } else {
+                Event::NoSend
+            };
         }
         if now >= self.start + self.interval {
             let doubled = (self.interval * 2).min(INTERVAL_MAX);
             *self = Trickle::fresh(now, doubled, random);
+            return Event::NoSend;
         }
-        false
+        Event::Nothing
+    }
+}
+
+/// What Trickle does in a tick.
+#[derive(Clone, Copy, Debug, PartialEq, Eq)]
+enum Event {
+    /// The send point.
+    Send,
+    /// A send point that is suppressed, or the end of the interval.
+    NoSend,
+    /// Nothing was due.
+    Nothing,
+}
+
+/// Keep-alives of one endpoint (RFC 7787, section 6.1.2).
+#[derive(Clone, Copy, Debug, PartialEq, Eq)]
+pub struct KeepAlive {
+    /// The chosen interval.
+    pub keep: u32,
+    /// The reading of the last sending plus the delay that was fixed then.
+    pub quiet: u64,
+}
+
+impl KeepAlive {
+    /// After a sending, which fixes the delay of the next keep-alive.
+    fn after_sending(keep: u32, now: u64, random: u32) -> KeepAlive {
+        let quiet = now + u64::from(random) % DELAYS;
+        KeepAlive { keep, quiet }
+    }
+
+    /// The reading from which a keep-alive is due, if nothing is sent before.
+    pub fn due(&self) -> u64 {
+        self.quiet + u64::from(self.keep)
     }
 }
 
@@ -197,6 +245,7 @@ pub struct Node {
     pub trickle: [Trickle; ENDPOINTS],
     /// For each endpoint, the reading from which the network state may be requested again.
     pub next_request: [u64; ENDPOINTS],
+    pub keep_alives: [KeepAlive; ENDPOINTS],
 }
 
 /// Answer of `receive`.
@@ -250,6 +299,11 @@ fn is_endpoint(endpoint: u32) -> bool {
 /// Trickle of all endpoints at the start.
 fn fresh_trickles(now: u64, randoms: &Randoms) -> [Trickle; ENDPOINTS] {
     randoms.map(|random| Trickle::fresh(now, INTERVAL_MIN, random))
+}
+
+/// Keep-alives of all endpoints at the start, which counts as a sending.
+fn fresh_keep_alives(now: u64, randoms: &Randoms) -> [KeepAlive; ENDPOINTS] {
+    randoms.map(|random| KeepAlive::after_sending(DEFAULT_KEEP_ALIVE, now, random))
 }
 
 /// The (peer node, peer endpoint, own endpoint) of each Peer TLV in node data.
@@ -444,6 +498,7 @@ impl Node {
             peers: Vec::new(),
             trickle: fresh_trickles(now, randoms),
             next_request: [0; ENDPOINTS],
+            keep_alives: fresh_keep_alives(now, randoms),
         }
     }
 
@@ -508,7 +563,8 @@ impl Node {
         }
     }
 
-    /// What is due on an endpoint: peer removal, republishing, Trickle. Refusals 1 2 3 4.
+    /// What is due on an endpoint: peer removal, republishing, Trickle or else a keep-alive.
+    /// Refusals 1 2 3 4.
     pub fn tick(
         &mut self,
         table_len: usize,
@@ -537,13 +593,46 @@ impl Node {
         self.compare_digest(clock, randoms);
         self.last = clock;
         let index = endpoint as usize - 1;
-        let send = self.trickle[index].step(clock, randoms[index]);
-        let bytes = if send {
+        let bytes = if self.event(index, clock, randoms[index]) {
             self.status(endpoint)
         } else {
             Vec::new()
         };
         Written { refusal: 0, bytes }
+    }
+
+    /// Chooses the keep-alive interval of an endpoint. A choice is no sending: it moves
+    /// neither the last one nor its delay. Refusals 1 2 3 12 4 9.
+    pub fn keep_alive(
+        &mut self,
+        table_len: usize,
+        clock: u64,
+        endpoint: u32,
+        interval: u32,
+        randoms: &Randoms,
+    ) -> u32 {
+        let data = self.data_with_interval(endpoint, interval);
+        let refusal = first_refusal(&[
+            (1, clock > CLOCK_MAX),
+            (2, clock < self.last),
+            (3, !is_endpoint(endpoint)),
+            (12, !(1..=KEEP_ALIVE_MAX).contains(&interval)),
+            (4, table_len < TABLE_ROOM),
+            (9, data.len() > wire::MAX_DATA),
+        ]);
+        if refusal == 0 {
+            let chosen = &mut self.keep_alives[endpoint as usize - 1].keep;
+            let changed = *chosen != interval;
+            *chosen = interval;
+            if changed {
+                let entry = self.own_entry_mut();
+                entry.set_data(data);
+                entry.publish(clock);
+            }
+            self.compare_digest(clock, randoms);
+            self.last = clock;
+        }
+        refusal
     }
 
     /// Puts a payment into our data. Refusals 1 2 4 7 8 9.
@@ -707,6 +796,39 @@ impl Node {
         entry.publish(now);
     }
 
+    /// Our data with the Keep-Alive TLV of an endpoint replaced; the default needs none.
+    fn data_with_interval(&self, endpoint: u32, interval: u32) -> Vec<u8> {
+        // Ours are all written here, so they have their 8 bytes.
+        let mut data = wire::without(&self.own_entry().data, |tlv| {
+            tlv.kind == wire::KEEP_ALIVE && wire::word(tlv.value, 0) == endpoint
+        });
+        if interval != DEFAULT_KEEP_ALIVE {
+            wire::insert(&mut data, &wire::keep_alive_tlv(endpoint, interval));
+        }
+        data
+    }
+
+    /// The one event of a tick: Trickle's, or else a keep-alive. Tells whether to send.
+    fn event(&mut self, index: usize, now: u64, random: u32) -> bool {
+        let trickle = &mut self.trickle[index];
+        let keep_alive = &mut self.keep_alives[index];
+        let send = match trickle.step(now, random) {
+            Event::Send => true,
+            Event::NoSend => false,
+            Event::Nothing => {
+                let due = now >= keep_alive.due();
+                if due {
+                    trickle.restart(now, random);
+                }
+                due
+            }
+        };
+        if send {
+            *keep_alive = KeepAlive::after_sending(keep_alive.keep, now, random);
+        }
+        send
+    }
+
     /// Resets Trickle if the digest differs from the one at the end of the last such call.
     fn compare_digest(&mut self, now: u64, randoms: &Randoms) {
         let digest = self.network_digest(now);
@@ -718,7 +840,7 @@ impl Node {
         self.digest = digest;
     }
 
-    /// What Trickle sends; the stored digest is that of the current reading.
+    /// What Trickle and a keep-alive send; the stored digest is that of the current reading.
     fn status(&self, endpoint: u32) -> Vec<u8> {
         let mut bytes = wire::node_endpoint_tlv(self.own, endpoint);
         bytes.extend_from_slice(&wire::network_state_tlv(&self.digest));

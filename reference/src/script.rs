@@ -44,6 +44,12 @@ pub enum Line {
         endpoint: u32,
         randoms: Randoms,
     },
+    KeepAlive {
+        clock: u64,
+        endpoint: u32,
+        interval: u32,
+        randoms: Randoms,
+    },
     Pay {
         clock: u64,
         payment: Payment,
@@ -105,6 +111,12 @@ pub fn parse(line: &str) -> Option<Line> {
         ["tick", clock, endpoint, a, b, c, d] => Some(Line::Tick {
             clock: number(clock)?,
             endpoint: number(endpoint)?,
+            randoms: parse_randoms([a, b, c, d])?,
+        }),
+        ["keep-alive", clock, endpoint, interval, a, b, c, d] => Some(Line::KeepAlive {
+            clock: number(clock)?,
+            endpoint: number(endpoint)?,
+            interval: number(interval)?,
             randoms: parse_randoms([a, b, c, d])?,
         }),
         ["pay", clock, household, receipt, amount, a, b, c, d] => Some(Line::Pay {
@@ -317,6 +329,15 @@ impl<N: Calls> Session<N> {
                 endpoint,
                 randoms,
             } => written_text("tick", &node.tick(rooms, *clock, *endpoint, randoms)),
+            Line::KeepAlive {
+                clock,
+                endpoint,
+                interval,
+                randoms,
+            } => {
+                let refusal = node.keep_alive(rooms, *clock, *endpoint, *interval, randoms);
+                format!("keep-alive {refusal}\n")
+            }
             Line::Pay {
                 clock,
                 payment,
@@ -395,14 +416,17 @@ pub fn state_text(view: &View) -> String {
     }
     for (index, endpoint) in view.endpoints.iter().enumerate() {
         text += &format!(
-            "endpoint {} start={} point={} interval={} count={} spent={} next={}\n",
+            "endpoint {} start={} point={} interval={} count={} spent={} next={} \
+             keep={} quiet={}\n",
             index + 1,
             endpoint.start,
             endpoint.point,
             endpoint.interval,
             endpoint.count,
             u8::from(endpoint.spent),
-            endpoint.next_request
+            endpoint.next_request,
+            endpoint.keep,
+            endpoint.quiet
         );
     }
     text

@@ -86,8 +86,8 @@ impl Node {
         }
     }
 
-    /// Starts from a snapshot. Our own peers are unknown now, so every Peer TLV
-    /// of ours goes, and we republish. Refusals 1 4 11.
+    /// Starts from a snapshot. Our own peers are unknown now, and no keep-alive interval
+    /// is chosen yet, so every TLV of ours about them goes, and we republish. Refusals 1 4 11.
     pub fn resume(&mut self, table_len: usize, bytes: &[u8], clock: u64, randoms: &Randoms) -> u32 {
         let snapshot = load(bytes, clock);
         let refusal = first_refusal(&[
@@ -98,7 +98,7 @@ impl Node {
         if let (0, Some(snapshot)) = (refusal, snapshot) {
             let mut table = snapshot.table;
             for entry in table.iter_mut().filter(|entry| entry.node == snapshot.own) {
-                entry.drop_peer_tlvs();
+                entry.drop_endpoint_tlvs();
                 entry.publish(clock);
             }
             *self = Node::started(snapshot.own, clock, table, randoms);

@@ -1,4 +1,4 @@
-//! Nodes on lossless links find each other and agree.
+//! Nodes on lossless links find each other, agree, and keep each other.
 
 use reference::node::{Node, REPLY_ROOM, TABLE_ROOM};
 use reference::random::Random;
@@ -10,6 +10,8 @@ struct Mesh {
     nodes: Vec<Node>,
     links: Vec<Link>,
     random: Random,
+    /// Peers that ticks removed for their silence.
+    removed: usize,
 }
 
 impl Mesh {
@@ -27,6 +29,7 @@ impl Mesh {
             nodes,
             links,
             random,
+            removed: 0,
         }
     }
 
@@ -35,7 +38,10 @@ impl Mesh {
         for link in self.links.clone() {
             for &from in &link {
                 let randoms = self.random.randoms();
-                let sent = self.nodes[from.0].tick(TABLE_ROOM, REPLY_ROOM, clock, from.1, &randoms);
+                let node = &mut self.nodes[from.0];
+                let peers = node.peers.len();
+                let sent = node.tick(TABLE_ROOM, REPLY_ROOM, clock, from.1, &randoms);
+                self.removed += peers - node.peers.len();
                 for &to in link
                     .iter()
                     .filter(|&&to| to != from && !sent.bytes.is_empty())
@@ -87,6 +93,20 @@ impl Mesh {
     }
 }
 
+/// All on one link: in an hour of ten ticks a second no peer is removed for silence.
+fn check_hour(count: usize) {
+    let ids: Vec<u32> = (1..=count as u32).collect();
+    let mut mesh = Mesh::new(&ids, vec![(0..count).map(|node| (node, 1)).collect()]);
+    for clock in (0..3_600_000).step_by(100) {
+        mesh.step(clock);
+        assert_eq!(mesh.removed, 0, "at {clock}");
+    }
+    for node in &mesh.nodes {
+        assert_eq!(node.peers.len(), count - 1);
+    }
+    assert!(mesh.is_level(3_600_000));
+}
+
 fn pay(node: &mut Node, clock: u64, receipt: u32, amount: i32) {
     assert_eq!(node.pay(TABLE_ROOM, clock, 17, receipt, amount, &[0; 4]), 0);
 }
@@ -131,4 +151,19 @@ fn ring_of_four_with_double_links() {
     links.push(vec![(0, 3), (1, 3)]);
     links.push(vec![(0, 4), (1, 4)]);
     check(Mesh::new(&[4, 3, 2, 1], links));
+}
+
+#[test]
+fn two_for_an_hour() {
+    check_hour(2);
+}
+
+#[test]
+fn three_for_an_hour() {
+    check_hour(3);
+}
+
+#[test]
+fn five_for_an_hour() {
+    check_hour(5);
 }

@@ -21,7 +21,7 @@ fn scripts() -> Vec<PathBuf> {
 #[test]
 fn stored_outputs() {
     let paths = scripts();
-    assert!(paths.len() >= 30);
+    assert!(paths.len() >= 40);
     for path in paths {
         let script = fs::read_to_string(&path).unwrap();
         let expected = fs::read_to_string(path.with_extension("out")).unwrap();

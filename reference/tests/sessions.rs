@@ -2,11 +2,13 @@
 
 use reference::generate;
 use reference::node::{
-    Node, CLOCK_MAX, INTERVAL_MAX, INTERVAL_MIN, MAX_NODES, MAX_PEERS, REPLY_ROOM, TABLE_ROOM,
+    Node, CLOCK_MAX, DEFAULT_KEEP_ALIVE, INTERVAL_MAX, INTERVAL_MIN, KEEP_ALIVE_MAX, MAX_NODES,
+    MAX_PEERS, REPLY_ROOM, TABLE_ROOM,
 };
 use reference::random::Random;
-use reference::script::Session;
+use reference::script::{parse, Line, Session};
 use reference::wire;
+use std::collections::BTreeSet;
 
 /// What every call keeps.
 fn check_state(node: &Node) {
@@ -22,6 +24,7 @@ fn check_state(node: &Node) {
         assert!(entry.since <= node.last);
     }
     check_peers(node);
+    check_keep_alives(node);
     for (trickle, next_request) in node.trickle.iter().zip(node.next_request) {
         assert!(trickle.start <= node.last);
         assert!((0..=7).any(|doublings| trickle.interval == INTERVAL_MIN << doublings));
@@ -41,12 +44,30 @@ fn check_peers(node: &Node) {
         tlvs.push(wire::peer_tlv(peer.node, peer.theirs, peer.ours));
     }
     tlvs.sort();
-    let published: Vec<Vec<u8>> = wire::tlvs_of(node.own_entry().data())
+    assert_eq!(published(node, wire::PEER), tlvs);
+}
+
+/// The type 9 TLVs of our data are exactly those of the endpoints with another interval than
+/// the default.
+fn check_keep_alives(node: &Node) {
+    let mut tlvs: Vec<Vec<u8>> = Vec::new();
+    for (endpoint, keep_alive) in (1..).zip(node.keep_alives) {
+        assert!((1..=KEEP_ALIVE_MAX).contains(&keep_alive.keep));
+        assert!(keep_alive.quiet <= node.last + INTERVAL_MIN / 2);
+        if keep_alive.keep != DEFAULT_KEEP_ALIVE {
+            tlvs.push(wire::keep_alive_tlv(endpoint, keep_alive.keep));
+        }
+    }
+    assert_eq!(published(node, wire::KEEP_ALIVE), tlvs);
+}
+
+/// The TLVs of one type in our data.
+fn published(node: &Node, kind: u16) -> Vec<Vec<u8>> {
+    wire::tlvs_of(node.own_entry().data())
         .iter()
-        .filter(|tlv| tlv.kind == wire::PEER)
+        .filter(|tlv| tlv.kind == kind)
         .map(|tlv| tlv.whole.to_vec())
-        .collect();
-    assert_eq!(published, tlvs);
+        .collect()
 }
 
 /// Refused calls and calls that only show leave the state; the others keep its rules.
@@ -88,12 +109,13 @@ fn scripts_are_reproducible() {
     assert_eq!(calls, 500);
 }
 
-/// After two ticks at one reading nothing further is due on that endpoint.
+/// After three ticks at one reading nothing further is due on that endpoint.
 #[test]
-fn two_ticks_then_nothing() {
+fn three_ticks_then_nothing() {
     let mut random = Random::new(55);
     let mut session = Session::default();
     let mut checks = 0;
+    let mut third = 0;
     for line in generate::script(55, 12_000).lines() {
         session.run_line(line);
         let mut node = session.node.clone();
@@ -105,18 +127,62 @@ fn two_ticks_then_nothing() {
             assert_eq!(answer.refusal, 0);
             answer.bytes
         };
-        let first = tick(&mut node);
-        let second = tick(&mut node);
-        assert!(
-            first.is_empty() || second.is_empty(),
-            "at most one of the two sends"
-        );
+        let answers = [(); 3].map(|()| tick(&mut node));
+        let sent = answers.iter().filter(|bytes| !bytes.is_empty()).count();
+        assert!(sent <= 1, "at most one of the three sends");
+        third += usize::from(!answers[2].is_empty());
         let settled = node.clone();
         assert!(tick(&mut node).is_empty());
         assert_eq!(node, settled);
         checks += 1;
     }
     assert!(checks > 12_000);
+    assert!(third > 0, "sometimes the third sends");
+}
+
+/// Keep-alives are sent with and without a reset, at the first reading at which they are due and
+/// not one earlier; choices meet each of their numbers.
+#[test]
+fn sessions_meet_keep_alives() {
+    let mut sent = [0; 2];
+    let mut just_due = [0; 2];
+    let mut answers = BTreeSet::new();
+    for seed in 300..308 {
+        let mut session = Session::default();
+        for line in generate::script(seed, 3_000).lines() {
+            let before = session.node.clone();
+            let answer = session.run_line(line);
+            if answer.starts_with("keep-alive") {
+                answers.insert(answer.clone());
+            }
+            let Some(Line::Tick {
+                clock, endpoint, ..
+            }) = parse(line)
+            else {
+                continue;
+            };
+            if !answer.starts_with("tick 0") {
+                continue;
+            }
+            let index = endpoint as usize - 1;
+            let due = before.keep_alives[index].due();
+            // After a send point of Trickle's own it would be spent.
+            let kept_alive = answer.starts_with("tick 0 32") && !session.node.trickle[index].spent;
+            if kept_alive {
+                let interval = session.node.trickle[index].interval;
+                let reset = interval != before.trickle[index].interval;
+                sent[usize::from(reset)] += 1;
+            }
+            if clock == due || clock + 1 == due {
+                just_due[usize::from(kept_alive)] += 1;
+                assert!(clock == due || !kept_alive, "{line}");
+            }
+        }
+    }
+    assert!(sent.iter().all(|&count| count > 20), "{sent:?}");
+    assert!(just_due.iter().all(|&count| count > 50), "{just_due:?}");
+    let numbers = [0, 1, 12, 2, 3, 4, 9].map(|number| format!("keep-alive {number}\n"));
+    assert!(answers.iter().eq(&numbers), "{answers:?}");
 }
 
 /// The sum over all households is the sum of the totals, with one count for all.

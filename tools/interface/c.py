@@ -108,20 +108,25 @@ class Header:
         out = [f'{indent}/* {first[len(indent) + 3 :]}', *rest]
         return [*out[:-1], out[-1] + ' */']
 
+    def beside(self, line, words, above):
+        """The words behind the line, or this comment above it where they have no place."""
+        both = f'{line} /* {words} */'
+        return [both] if len(both) <= WIDTH else [*self.comment(above, '    '), line]
+
     def version(self):
         yield f'#define PINGVRATHA_VERSION "{self.i.version}"'
         yield from (f'#define PINGVRATHA_VERSION_{part} {n}' for part, n in zip(('MAJOR', 'MINOR', 'PATCH'), self.i.version.split('.')))
 
     def figures(self):
-        yield from ['', '/* ---- The figures of document 01. */']
+        yield from ['', '/* ---- The figures of documents 01 and 02. */']
         for f in self.i.figures:
             yield from ['', *self.comment(f.doc), f'#define PINGVRATHA_{f.name} ' + (f'UINT64_C({f.value})' if f.type == 'u64' else str(f.value))]
 
     def numbers(self):
         rows = [(0, 'ACCEPTED', 'accepted'), *((n, *row) for n, row in self.i.refusals.items())]
-        yield from ['', '/* ---- The number of an answer, in the words of document 01. */', '', 'typedef enum pingvratha_number {']
+        yield from ['', '/* ---- The number of an answer, in the words of documents 01 and 02. */', '', 'typedef enum pingvratha_number {']
         for n, name, words in rows:
-            yield f'    PINGVRATHA_{name} = {n}{"," * (n < rows[-1][0])} /* {words} */'
+            yield from self.beside(f'    PINGVRATHA_{name} = {n}{"," * (n < rows[-1][0])}', words, [f'{words[0].upper()}{words[1:]}.'])
         yield from ['} pingvratha_number;', '', '/* These words. */', 'static inline const char *pingvratha_words(uint32_t number) {', '    switch (number) {']
         yield from (line for _, name, words in rows for line in (f'    case PINGVRATHA_{name}:', f'        return "{words}";'))
         yield from ['    default:', '        return "no such number";', '    }', '}']
@@ -149,8 +154,7 @@ class Header:
         for field in fields:
             line, words = f'    {self.declared(field)};', ' '.join(field.doc).removesuffix('.')
             words = words if words[1:2] == ' ' else words[:1].lower() + words[1:]
-            beside = f'{line} /* {words} */'
-            yield from [line] if not words else [beside] if len(beside) <= WIDTH else [*self.comment(field.doc, '    '), line]
+            yield from self.beside(line, words, field.doc) if words else [line]
         yield f'}} pingvratha_{name};'
 
     def plain(self, changes):

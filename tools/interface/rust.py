@@ -54,15 +54,20 @@ class Plain:
         return wrapped([self.linked.sub(lambda m: f'[`{self.links[m[0]]}`]', line) for line in lines], front)
 
     def refusals(self):
-        yield from ['', '/// Why a call is refused: a number of document 01, and its words.', '#[repr(u32)]', '#[non_exhaustive]']
+        yield from ['', '/// Why a call is refused: a number of documents 01 and 02, and its words.', '#[repr(u32)]', '#[non_exhaustive]']
         yield from [DERIVED.replace(')]', ', Hash)]'), 'pub enum Refusal {']
         for n, (name, words) in self.i.refusals.items():
             yield from [f'    /// {words[0].upper()}{words[1:]}.', f'    {self.variants[name]} = {n},']
         yield from ['}', '', 'impl Refusal {', '    /// Every refusal, ascending by number.']
         yield from [f'    pub const ALL: [Refusal; {len(self.variants)}] = [', *(f'        Refusal::{v},' for v in self.variants.values()), '    ];', '']
-        yield from ['    /// The words of document 01.', "    pub const fn words(self) -> &'static str {", '        match self {']
-        yield from (f'            Refusal::{self.variants[name]} => "{words}",' for name, words in self.i.refusals.values())
+        yield from ['    /// The words of documents 01 and 02.', "    pub const fn words(self) -> &'static str {", '        match self {']
+        for name, words in self.i.refusals.values():
+            yield from self.arm(f'            Refusal::{self.variants[name]} =>', f'"{words}"')
         yield from ['        }', '    }', '}']
+
+    def arm(self, pattern, value):
+        line = f'{pattern} {value},'
+        return [line] if len(line) <= WIDTH else [f'{pattern} {{', f'                {value}', '            }']
 
     def struct(self, struct):
         yield from ['', *self.comment(struct.doc), '#[repr(C)]', DERIVED, f'pub struct {struct.name} {{']

@@ -12,6 +12,7 @@ LENT = {'memory': 'TABLE_BYTES', 'room': 'MOST_BYTES', 'snapshot': 'SNAPSHOT_BYT
 SLICES = ('&[u8]', '&mut [u8]')
 # A plain type's size, which is its alignment too.
 SIZES = {'bool': 1, 'u8': 1, 'u16': 2, 'u32': 4, 'i32': 4, 'u64': 8, 'i64': 8, 'usize': 8}
+SPECS = Path('crates/model/specs')
 COMMENT = r'((?: *//.*\n)*)'
 
 
@@ -67,27 +68,30 @@ def uncommented(comment):
 
 
 def figures():
-    """Each is a number, or a product of figures above it."""
+    """Each is a number, or a product of figures above it, or such a product divided by a number."""
     found, values = [], {}
     for comment, name, kind, value in re.findall(COMMENT + r'pub const (\w+): (\w+) = (.*);', read('crates/model/src/figures.rt')):
-        values[name] = prod(values.get(factor) or int(factor) for factor in value.split(' * '))
+        factors, _, divisor = value.partition(' / ')
+        values[name] = prod(values.get(factor) or int(factor) for factor in factors.split(' * ')) // int(divisor or 1)
         found.append(Figure(uncommented(comment), name, kind, values[name]))
     return found
 
 
 def refusals():
-    """{number: (name, words)}: its name in code, and document 01's words at its definition."""
+    """{number: (name, words)}: its name in code, and the documents' words at its definition; where calls define it differently, the words of each."""
     names = {int(n): name for name, n in re.findall(r'pub const (\w+): u32 = (\d+);', read('crates/model/src/numbers.rt'))}
-    specs = read('crates/model/specs/Refusals.antt') + read('crates/model/specs/Snapshot.antt')
-    words = {int(n): text for n, text in re.findall(r'\b(\d+): "([^"]+)"', specs)}
+    words = {}
+    for path in sorted(SPECS.glob('*.antt'), key=lambda p: (p.stem != 'Refusals', p)):  # document 01's words first
+        for n, text in re.findall(r'(?:^--|;) (\d+): "([^"]+)"', read(path), re.M):
+            words.setdefault(int(n), []).append(text)
     if names.keys() != words.keys():
         sys.exit(f'numbers with a name and numbers with a definition differ: {sorted(names.keys() ^ words.keys())}')
-    return {n: (names[n], words[n]) for n in sorted(names)}
+    return {n: (names[n], ', or '.join(words[n])) for n in sorted(names)}
 
 
 def orders():
-    """{call: [number]}: a call's refusals in the order of its definition."""
-    specs = '\n'.join(read(p) for p in sorted(Path('crates/model/specs').glob('*.antt')))
+    """{call: [number]}: a call's refusals in the order of its definition; the call without underscores."""
+    specs = '\n'.join(read(p) for p in sorted(SPECS.glob('*.antt')))
     number = {row: int(n) for row, n in re.findall(r'^(\w+) [^=\n]*= record \{ number = (\d+);', specs, re.M)}
     lists = re.findall(r'^refusal(\w+) [^=]*=\s+firstOf\s+\((.*?)\s∷ \[\]\)', specs, re.M | re.S)
     return {call.lower(): [number[row.split()[0]] for row in rows.split('∷')] for call, rows in lists}
@@ -114,7 +118,7 @@ def calls(numbers):
             sys.exit(f'crates/ledger/src/{module}.rt exports something in another form')
         for comment, name, params, result in here:
             fields = [Field([], *pair.split(': ')) for pair in re.split(r',\s*', params.strip()) if pair]
-            refused = [numbers[n][0] for n in order[name.removesuffix('_refusal')]] if fields else []
+            refused = [numbers[n][0] for n in order[name.removesuffix('_refusal').replace('_', '')]] if fields else []
             found.append(Call(uncommented(comment), name, fields, result, refused, module != 'look'))
     return found
 

@@ -1,5 +1,6 @@
-//! Two nodes in one process: they meet and come level, one takes a payment and saves it, loses
-//! power and goes on, and at last is gone. Prints what host/level.c prints.
+//! Two nodes in one process: they meet and come level, one chooses how often it is to be heard,
+//! takes a payment and saves it, loses power and goes on, and at last is gone. Prints what
+//! host/level.c prints.
 
 #![forbid(unsafe_code)]
 
@@ -109,6 +110,15 @@ fn main() -> Result<(), Refusal> {
     for (at, own) in [(0, 7), (1, 8)] {
         let randoms = link.draw();
         link.nodes[at].begin(own, link.reading, &randoms)?;
+    }
+    link.come_level()?;
+
+    let randoms = link.draw();
+    link.nodes[0].keep_alive(link.reading, 1, 5000, &randoms)?;
+    let randoms = link.draw();
+    let never = link.nodes[0].keep_alive(link.reading, 1, 0, &randoms);
+    if let Err(refusal) = never {
+        println!("heard every 5000 ms; every 0 ms: {refusal}");
     }
     link.come_level()?;
 

@@ -58,7 +58,8 @@ impl Node {
     }
 
     /// Goes on from a snapshot, at whatever reading. Our peers are unknown at first, so that only
-    /// our own node is reachable, and our data are published anew.
+    /// our own node is reachable, and our data are published anew. Keep-alive intervals are the usual
+    /// one again.
     ///
     /// # Errors
     ///
@@ -126,6 +127,32 @@ impl Node {
         self.state = sent.state;
         accepted(sent.number)?;
         Ok(&room[..sent.length])
+    }
+
+    /// Chooses the endpoint's keep-alive interval in milliseconds, 1 to
+    /// [`MOST_KEEP_ALIVE`](crate::MOST_KEEP_ALIVE): when ticks of the endpoint have sent nothing for so
+    /// long, and a random delay of up to 100 ms, one sends. Our data tell it to the peers, who remove us
+    /// when they have not heard us for 2.1 times as long; unless it is
+    /// [`USUAL_INTERVAL`](crate::USUAL_INTERVAL), as at first, it takes 12 bytes.
+    /// [`begin`](Node::begin) and [`resume`](Node::resume) set that one again.
+    ///
+    /// With ten ticks a second choose 5,000 or more: with a shorter one peers may remove us though
+    /// nobody is gone.
+    ///
+    /// # Errors
+    ///
+    /// The refusals of [`plain::keep_alive`] but [`Refusal::BufferTooSmall`].
+    pub fn keep_alive(
+        &mut self,
+        clock: u64,
+        endpoint: u32,
+        interval: u32,
+        randoms: &Randoms,
+    ) -> Result<(), Refusal> {
+        let (state, memory) = (&self.state, &mut self.memory);
+        let done = unsafe { plain::keep_alive(state, memory, clock, endpoint, interval, randoms) };
+        self.state = done.state;
+        accepted(done.number)
     }
 
     /// Puts a payment, in cents, into our data, where it takes 8, 12 or 16 bytes, and publishes it.
@@ -281,7 +308,7 @@ impl Marks {
 fn accepted(number: u32) -> Result<(), Refusal> {
     match number {
         0 => Ok(()),
-        _ => Err(Refusal::of(number).expect("a number of document 01")),
+        _ => Err(Refusal::of(number).expect("a number of the documents")),
     }
 }
 

@@ -17,9 +17,9 @@
 //! - gives one random number for each endpoint with every call that changes state, new ones each
 //!   time;
 //! - gives the clock in milliseconds, never lower than before;
-//! - ticks every endpoint, 1 to [`MOST_ENDPOINTS`], again and again, some ten times a second: the
-//!   shortest interval between two sendings is [`LEAST_INTERVAL`]. What a tick writes goes out by
-//!   multicast on that endpoint;
+//! - ticks every endpoint, 1 to [`MOST_ENDPOINTS`], again and again, some ten times a second:
+//!   Trickle's shortest interval is [`LEAST_INTERVAL`], and a keep-alive that is due may have to
+//!   wait for later ticks. What a tick writes goes out by multicast on that endpoint;
 //! - hands each datagram to receive, with the endpoint that it came on and whether it came by
 //!   unicast. What receive writes goes back by unicast to where the datagram came from, on the same
 //!   endpoint;
@@ -93,8 +93,18 @@ pub const REFRESH_AGE: u64 = 4294901760;
 /// The largest age that is sent or saved.
 pub const MOST_AGE: u64 = 4294967295;
 
-/// The interval of a peer that publishes no Keep-Alive TLV for its endpoint.
-pub const USUAL_INTERVAL: u64 = 20000;
+/// The keep-alive interval, in milliseconds, of an endpoint that publishes no Keep-Alive TLV: a
+/// peer's, and ours at first.
+pub const USUAL_INTERVAL: u32 = 20000;
+
+/// The shortest keep-alive interval that can be chosen.
+pub const LEAST_KEEP_ALIVE: u32 = 1;
+
+/// The longest keep-alive interval that can be chosen.
+pub const MOST_KEEP_ALIVE: u32 = 600000;
+
+/// The longest delay of a keep-alive, in milliseconds.
+pub const MOST_DELAY: u64 = 100;
 
 /// What a reclaimed sequence number gains.
 pub const RECLAIM_STEP: u32 = 1000;
@@ -102,13 +112,16 @@ pub const RECLAIM_STEP: u32 = 1000;
 /// Bytes of a Peer TLV.
 pub const PEER_BYTES: usize = 16;
 
+/// Bytes of a Keep-Alive TLV.
+pub const KEEP_ALIVE_BYTES: usize = 12;
+
 /// The first household.
 pub const LEAST_HOUSEHOLD: u32 = 1;
 
 /// The last household.
 pub const MOST_HOUSEHOLD: u32 = 9999;
 
-/// Why a call is refused: a number of document 01, and its words.
+/// Why a call is refused: a number of documents 01 and 02, and its words.
 #[repr(u32)]
 #[non_exhaustive]
 #[derive(Clone, Copy, Debug, PartialEq, Eq, Hash)]
@@ -129,17 +142,19 @@ pub enum Refusal {
     NoSuchHousehold = 7,
     /// This very payment stands in our data already.
     PaidAlready = 8,
-    /// The payment doesn't fit in our 1,024 bytes.
+    /// The payment doesn't fit in our 1,024 bytes, or no room in our data for the TLV.
     DataFull = 9,
     /// No such box in the table.
     NoSuchNode = 10,
     /// Not a saved book.
     NotASnapshot = 11,
+    /// An interval of 0 or above 600,000.
+    NoSuchInterval = 12,
 }
 
 impl Refusal {
     /// Every refusal, ascending by number.
-    pub const ALL: [Refusal; 11] = [
+    pub const ALL: [Refusal; 12] = [
         Refusal::ClockTooHigh,
         Refusal::ClockBack,
         Refusal::NoSuchEndpoint,
@@ -151,9 +166,10 @@ impl Refusal {
         Refusal::DataFull,
         Refusal::NoSuchNode,
         Refusal::NotASnapshot,
+        Refusal::NoSuchInterval,
     ];
 
-    /// The words of document 01.
+    /// The words of documents 01 and 02.
     pub const fn words(self) -> &'static str {
         match self {
             Refusal::ClockTooHigh => "clock above 2^62 - 1",
@@ -164,9 +180,12 @@ impl Refusal {
             Refusal::DatagramMalformed => "datagram is not a row of whole TLVs with zero padding",
             Refusal::NoSuchHousehold => "household outside 1 to 9,999",
             Refusal::PaidAlready => "this very payment stands in our data already",
-            Refusal::DataFull => "the payment doesn't fit in our 1,024 bytes",
+            Refusal::DataFull => {
+                "the payment doesn't fit in our 1,024 bytes, or no room in our data for the TLV"
+            }
             Refusal::NoSuchNode => "no such box in the table",
             Refusal::NotASnapshot => "not a saved book",
+            Refusal::NoSuchInterval => "an interval of 0 or above 600,000",
         }
     }
 }
@@ -238,6 +257,10 @@ pub struct Endpoint {
     pub trickle: Trickle,
     /// The reading from which network state may be requested again.
     pub next: u64,
+    /// The keep-alive interval, in milliseconds.
+    pub keep: u32,
+    /// The reading of the last sending plus the delay that was fixed then.
+    pub quiet: u64,
 }
 
 /// The state that a call gets and leaves. A host keeps it and need not look into it; node data
@@ -355,29 +378,31 @@ const _: () = {
     assert!(offset_of!(Trickle, interval) == 16);
     assert!(offset_of!(Trickle, count) == 24);
     assert!(offset_of!(Trickle, spent) == 28);
-    assert!(size_of::<Endpoint>() == 40);
+    assert!(size_of::<Endpoint>() == 56);
     assert!(offset_of!(Endpoint, trickle) == 0);
     assert!(offset_of!(Endpoint, next) == 32);
-    assert!(size_of::<State>() == 1872);
+    assert!(offset_of!(Endpoint, keep) == 40);
+    assert!(offset_of!(Endpoint, quiet) == 48);
+    assert!(size_of::<State>() == 1936);
     assert!(offset_of!(State, own) == 0);
     assert!(offset_of!(State, last) == 8);
     assert!(offset_of!(State, table) == 16);
     assert!(offset_of!(State, peers) == 1304);
     assert!(offset_of!(State, endpoints) == 1696);
-    assert!(offset_of!(State, digest) == 1856);
-    assert!(size_of::<Done>() == 1880);
+    assert!(offset_of!(State, digest) == 1920);
+    assert!(size_of::<Done>() == 1944);
     assert!(offset_of!(Done, number) == 0);
     assert!(offset_of!(Done, state) == 8);
-    assert!(size_of::<Answer>() == 1896);
+    assert!(size_of::<Answer>() == 1960);
     assert!(offset_of!(Answer, number) == 0);
     assert!(offset_of!(Answer, state) == 8);
-    assert!(offset_of!(Answer, length) == 1880);
-    assert!(offset_of!(Answer, omitted) == 1888);
-    assert!(offset_of!(Answer, dropped) == 1892);
-    assert!(size_of::<Sent>() == 1888);
+    assert!(offset_of!(Answer, length) == 1944);
+    assert!(offset_of!(Answer, omitted) == 1952);
+    assert!(offset_of!(Answer, dropped) == 1956);
+    assert!(size_of::<Sent>() == 1952);
     assert!(offset_of!(Sent, number) == 0);
     assert!(offset_of!(Sent, state) == 8);
-    assert!(offset_of!(Sent, length) == 1880);
+    assert!(offset_of!(Sent, length) == 1944);
     assert!(size_of::<Summed>() == 24);
     assert!(offset_of!(Summed, number) == 0);
     assert!(offset_of!(Summed, value) == 8);
@@ -445,6 +470,16 @@ mod raw {
             endpoint: u32,
             randoms: &[u32; MOST_ENDPOINTS],
         ) -> Sent;
+
+        pub fn pingvratha_keep_alive(
+            state: State,
+            memory: *mut u8,
+            memory_length: usize,
+            clock: u64,
+            endpoint: u32,
+            interval: u32,
+            randoms: &[u32; MOST_ENDPOINTS],
+        ) -> Done;
 
         pub fn pingvratha_pay(
             state: State,
@@ -544,7 +579,8 @@ pub unsafe fn begin(
 }
 
 /// Goes on from a snapshot, at whatever reading. Our peers are unknown at first, so that only our
-/// own node is reachable, and our data are published anew.
+/// own node is reachable, and our data are published anew. Keep-alive intervals are
+/// [`USUAL_INTERVAL`] again.
 ///
 /// Refusals in order: [`Refusal::ClockTooHigh`], [`Refusal::BufferTooSmall`],
 /// [`Refusal::NotASnapshot`].
@@ -613,7 +649,8 @@ pub unsafe fn receive(
 
 /// Does what is due on the endpoint: removes peers that fell silent, publishes our data anew before
 /// it is too old, and writes what is to be sent to the front of the room; length 0 means that there
-/// is nothing. At one reading a second tick may still have something to do, a third never.
+/// is nothing. At one reading a second and a third tick may still have something to do, a fourth
+/// never.
 ///
 /// Refusals in order: [`Refusal::ClockTooHigh`], [`Refusal::ClockBack`],
 /// [`Refusal::NoSuchEndpoint`], [`Refusal::BufferTooSmall`].
@@ -639,6 +676,42 @@ pub unsafe fn tick(
             room.len(),
             clock,
             endpoint,
+            randoms,
+        )
+    }
+}
+
+/// Chooses the endpoint's keep-alive interval in milliseconds: when ticks of the endpoint have sent
+/// nothing for so long, and a random delay of up to [`MOST_DELAY`], one sends. Our data tell it to
+/// the peers, who remove us when they have not heard us for 2.1 times as long; unless it is
+/// [`USUAL_INTERVAL`], as at first, it takes 12 bytes. begin and resume set that one again. With
+/// ten ticks a second choose 5000 or more: with a shorter one peers may remove us though nobody is
+/// gone.
+///
+/// Refusals in order: [`Refusal::ClockTooHigh`], [`Refusal::ClockBack`],
+/// [`Refusal::NoSuchEndpoint`], [`Refusal::NoSuchInterval`], [`Refusal::BufferTooSmall`],
+/// [`Refusal::DataFull`].
+///
+/// # Safety
+///
+/// State and table memory are as the last call left them.
+#[inline]
+pub unsafe fn keep_alive(
+    state: &State,
+    memory: &mut [u8],
+    clock: u64,
+    endpoint: u32,
+    interval: u32,
+    randoms: &[u32; MOST_ENDPOINTS],
+) -> Done {
+    unsafe {
+        raw::pingvratha_keep_alive(
+            *state,
+            memory.as_mut_ptr(),
+            memory.len(),
+            clock,
+            endpoint,
+            interval,
             randoms,
         )
     }

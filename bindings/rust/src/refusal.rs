@@ -5,7 +5,7 @@ use core::error::Error;
 use core::fmt::{self, Display, Formatter};
 
 impl Refusal {
-    /// The number of document 01.
+    /// The number that documents 01 and 02 give it.
     pub const fn number(self) -> u32 {
         self as u32
     }

@@ -1,10 +1,10 @@
-//! What a node refuses, and what it is as a value.
+//! What a node refuses and chooses, and what it is as a value.
 
 #![forbid(unsafe_code)]
 
 use pingvratha::{
-    Node, Refusal, DATA_LIMIT, LAST_READING, MOST_BYTES, MOST_ENDPOINTS, MOST_HOUSEHOLD,
-    SNAPSHOT_BYTES,
+    Node, Refusal, DATA_LIMIT, LAST_READING, LEAST_KEEP_ALIVE, MOST_BYTES, MOST_ENDPOINTS,
+    MOST_HOUSEHOLD, MOST_KEEP_ALIVE, SNAPSHOT_BYTES, USUAL_INTERVAL,
 };
 
 const RANDOMS: [u32; MOST_ENDPOINTS] = [1, 2, 3, 4];
@@ -14,6 +14,12 @@ fn begun() -> Node {
     let mut node = Node::new();
     assert_eq!(node.begin(7, 1_000, &RANDOMS), Ok(()));
     node
+}
+
+/// Payments of eight bytes each, until our data are full. So many fit.
+fn fill(node: &mut Node) -> usize {
+    let paid = (1..).take_while(|&receipt| node.pay(1_000, 17, receipt, 1, &RANDOMS).is_ok());
+    paid.count()
 }
 
 /// The call is refused so, and the node stays as it was.
@@ -73,11 +79,50 @@ fn refuses_payments() {
         node.pay(1_000, 17, 1, 1, &RANDOMS),
         Err(Refusal::PaidAlready)
     );
-    // Eight bytes each, until the data are full.
-    let paid = (2..).take_while(|&receipt| node.pay(1_000, 17, receipt, 1, &RANDOMS).is_ok());
-    assert_eq!(8 * (1 + paid.count()), DATA_LIMIT);
+    let mut node = begun();
+    assert_eq!(8 * fill(&mut node), DATA_LIMIT);
     assert_eq!(node.pay(1_000, 18, 1, 1, &RANDOMS), Err(Refusal::DataFull));
     assert_eq!(node.show(7).unwrap().len(), DATA_LIMIT);
+}
+
+#[test]
+fn refuses_intervals() {
+    for interval in [LEAST_KEEP_ALIVE - 1, MOST_KEEP_ALIVE + 1] {
+        refuses(Refusal::NoSuchInterval, |node| {
+            node.keep_alive(1_000, 1, interval, &RANDOMS)
+        });
+        refuses(Refusal::NoSuchEndpoint, |node| {
+            node.keep_alive(1_000, 5, interval, &RANDOMS)
+        });
+    }
+    let mut node = begun();
+    fill(&mut node);
+    assert_eq!(
+        node.keep_alive(1_000, 1, 5_000, &RANDOMS),
+        Err(Refusal::DataFull)
+    );
+    assert_eq!(node.keep_alive(1_000, 1, USUAL_INTERVAL, &RANDOMS), Ok(()));
+    assert_eq!(node.show(7).unwrap().len(), DATA_LIMIT);
+}
+
+/// Both ends of the range are good, and our data tell any choice but the usual one, until we resume.
+#[test]
+fn chooses_intervals() {
+    let mut node = begun();
+    for (interval, bytes) in [
+        (LEAST_KEEP_ALIVE, 12),
+        (USUAL_INTERVAL, 0),
+        (MOST_KEEP_ALIVE, 12),
+    ] {
+        assert_eq!(node.keep_alive(1_000, 2, interval, &RANDOMS), Ok(()));
+        assert_eq!(node.show(7).unwrap().len(), bytes);
+        assert_eq!(node.state().endpoints[1].keep, interval);
+    }
+    let mut book = [0; SNAPSHOT_BYTES];
+    let saved = node.save(&mut book, 1_000).unwrap();
+    assert_eq!(node.resume(saved, 1_000, &RANDOMS), Ok(()));
+    assert_eq!(node.show(7).unwrap().len(), 0);
+    assert_eq!(node.state().endpoints[1].keep, USUAL_INTERVAL);
 }
 
 #[test]
@@ -100,7 +145,7 @@ fn numbers_and_words() {
         assert_eq!(refusal.to_string(), refusal.words());
     }
     assert_eq!(Refusal::of(0), None);
-    assert_eq!(Refusal::of(12), None);
+    assert_eq!(Refusal::of(13), None);
 }
 
 /// A refusal goes where errors go, a node where data go.

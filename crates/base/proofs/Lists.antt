@@ -2,13 +2,14 @@
 use mathlib.Core.Path.{_≡_, refl, sym, ap, _∙_, subst}
 use mathlib.Core.Bool.{Bool, true, false, not, _&&_, _||_}
 use mathlib.Core.List.{List, [], _∷_, _++_, map, append-assoc, append-nil}
+use mathlib.Core.Option.{Option, none, some}
 use mathlib.Core.Logic.{_⊎_, inl, inr, ⊎-elim}
 use Prim.Native.Nat.{ℕ, zero, suc, _+_, _-_, _≤_, _<_}
 use native.Mathlib.Omega.{arith}
 use native.Mathlib.Numerals.{add-one}
 use lib.ListN.{length, getD, take, drop, set, length-drop, drop-of-length-le}
 use lib.Seq.{drop-cons, drop-drop, take-take, take-nil, take-all, take-suc, length-take-le, set-at, append-snoc}
-use Rattle.base.specs.Lists.{any, keep, keepBy, joinAll, In, All}
+use Rattle.base.specs.Lists.{first, any, keep, keepBy, joinAll, In, All}
 use Rattle.base.proofs.Tests.{no-way, by-test, or-left, or-right}
 
 -- ---- places
@@ -233,15 +234,22 @@ all-take P (suc n) [] h = tt
 all-take P (suc n) (x ∷ xs) h = (h .0, all-take P n xs (h .1))
 
 module _ {A : Type 0} where
-  -- tests that agree keep the same
-  pub keep-same : (f g : A → Bool) (l : List A) → ((x : A) → f x ≡ g x) → keep f l ≡ keep g l
+  -- tests that agree on the list keep the same of it
+  pub keep-same : (f g : A → Bool) (l : List A) → ((x : A) → In x l → f x ≡ g x) → keep f l ≡ keep g l
   keep-same f g [] h = refl
-  keep-same f g (x ∷ l) h = rw (h x, keep-same f g l h)
+  keep-same f g (x ∷ l) h = rw (h x (inl refl), keep-same f g l (λ y m. h y (inr m)))
 
-  -- a test that always holds keeps all
-  pub keep-every : (f : A → Bool) (l : List A) → ((x : A) → f x ≡ true) → keep f l ≡ l
+  -- a test that holds of all keeps all
+  pub keep-every : (f : A → Bool) (l : List A) → ((x : A) → In x l → f x ≡ true) → keep f l ≡ l
   keep-every f [] h = refl
-  keep-every f (x ∷ l) h = rw (h x, keep-every f l h)
+  keep-every f (x ∷ l) h = rw (h x (inl refl), keep-every f l (λ y m. h y (inr m)))
+
+  -- the first that a test holds of, or none
+  pub by-first : (f : A → Bool) (l : List A) (P : Option A → Type 0) → (((x : A) → In x l → f x ≡ false) → P none)
+      → ((x : A) → In x l → f x ≡ true → P (some x)) → P (first f l)
+  by-first f [] P n s = n (λ x m. absurd m)
+  by-first f (x ∷ l) P n s =
+      by-test (f x) (λ b. rw b (s x (inl refl) b)) (λ b. rw b (by-first f l P (λ h. n (λ y m. ⊎-elim (λ e. rw e b) (h y) m)) (λ y m q. s y (inr m) q)))
 
   -- one test after the other
   pub keep-keep : (f g : A → Bool) (l : List A) → keep g (keep f l) ≡ keep (λ x. f x && g x) l

@@ -15,11 +15,11 @@ use Rattle.trickle.specs.View.{trickleOf}
 use Rattle.table.specs.declared.Table.{Table}
 use Rattle.node.specs.declared.State.{State}
 use Rattle.node.specs.declared.peers.Peers.{Peers}
-use Rattle.node.specs.View.{stateOf}
+use Rattle.node.specs.View.{endpointOf, stateOf}
 use Rattle.node.proofs.Moves.{moved-to}
 use Rattle.reply.specs.declared.Context.{Context}
 use Rattle.reply.specs.declared.Progress.{Progress}
-use Rattle.reply.specs.Updates.{withLocal}
+use Rattle.reply.specs.Updates.{localTrickle}
 use Rattle.reply.specs.View.{contextOf, gather, workOf, Sound, Stepped}
 use Rattle.reply.proofs.Steps.{work-state, work-own, work-table, gathered, local-is, local-moved, stepped-none, stepped-to, stepped-more, stepped-kept}
 use Rattle.exchange.specs.declared.Act.the-variants.{AskNetwork, Equal}
@@ -31,12 +31,12 @@ use Rattle.exchange.proofs.Telling.{passes-of, told-still}
 
 module _ (c : Context) (low : 1 ≤ c .endpoint) (high : c .endpoint ≤ 4) (b : State) (t : Table) (p : Peers) (d : Progress) (m r : List ℕ) (h : Sound (c .clock) (gather c b t p d) m r) where
   heard-local : (k : Trickle) → trickleOf k ≡ hear (trickleOf (d .local .trickle))
-      → Stepped c 0 (λ y. withState (countEqual (contextOf c) (y .state)) y) (gather c b t p d) m r (gather c b t p (withLocal (record { trickle = k; next = d .local .next }) d)) m r
+      → Stepped c 0 (λ y. withState (countEqual (contextOf c) (y .state)) y) (gather c b t p d) m r (gather c b t p (localTrickle k d)) m r
   heard-local k e =
       stepped-kept h (λ y. withState (countEqual (contextOf c) (y .state)) y) (countEqual (contextOf c) (stateOf (gathered c b t p d) m))
-      (gathered c b t p (withLocal (record { trickle = k; next = d .local .next }) d))
-      (moved-to (local-moved c b t p d m (h .rep) low high (record { trickle = k; next = d .local .next }))
-      (ap (λ (z : ModelTrickle). withEndpoint (c .endpoint) (record { trickle = z; next = d .local .next }) (stateOf (gathered c b t p d) m)) e
+      (gathered c b t p (localTrickle k d))
+      (moved-to (local-moved c b t p d m (h .rep) low high (localTrickle k d .local))
+      (ap (λ (z : ModelTrickle). withEndpoint (c .endpoint) (withTrickle z (endpointOf (d .local))) (stateOf (gathered c b t p d) m)) e
       ∙ ap (λ (z : ModelEndpoint). withEndpoint (c .endpoint) (withTrickle (hear (z .trickle)) z) (stateOf (gathered c b t p d) m)) (local-is c b t p d m (h .rep) low high)))
       refl refl
       (ap (λ (s : ModelState). withState (countEqual (contextOf c) s) (workOf (gather c b t p d) m r)) (work-state (gather c b t p d) m r))
@@ -62,7 +62,7 @@ module _ (v : List ℕ) (c : Context) {t : Table} {p : Peers} (d : Progress) {m 
         subst (λ (y : Progress). Passes c 1 (onNetwork (contextOf c) g) true (gather c b t p d) m r (gather c b t p y) m r) (sym (l .1 .1))
         (let s = heard-local c low high b t p d m r h (l .0) (l .1 .0) in
         record {
-          stepped = stepped-more (stepped-to s (λ y. workOf (gather c b t p (withLocal (record { trickle = l .0; next = d .local .next }) d)) m r) (sym (s .is))) 1 (omega arith);
+          stepped = stepped-more (stepped-to s (λ y. workOf (gather c b t p (localTrickle (l .0) d)) m r) (sym (s .is))) 1 (omega arith);
           is = network-equal (contextOf c) (workOf (gather c b t p d) m r) g (same-is b r h q) ∙ equal-late (contextOf c) (workOf (gather c b t p d) m r) n ∙ ap (touch (contextOf c)) (sym (s .is));
         }))
 

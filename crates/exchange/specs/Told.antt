@@ -25,7 +25,7 @@ use Rattle.decide.specs.Decided.{Acts, Taken}
 use Rattle.reply.specs.declared.Context.{Context}
 use Rattle.reply.specs.declared.Sender.{Sender}
 use Rattle.reply.specs.declared.Progress.{Progress}
-use Rattle.reply.specs.Updates.{withLocal, oneDropped, stale}
+use Rattle.reply.specs.Updates.{localTrickle, oneDropped, stale}
 use Rattle.reply.specs.View.{contextOf, Work, gather, workOf, Sound, Stepped, Open, Writes, Answers}
 use Rattle.exchange.specs.declared.Step.{Step}
 use Rattle.exchange.specs.declared.Act.{Act}
@@ -41,7 +41,7 @@ stillAt d = record { progress = d; act = Decided Ignored }
 pub record Counts (c : Context) (d v : Progress) : Type 0 where
   pub unicast : c .unicast ≡ true → v ≡ d
   pub multicast : c .unicast ≡ false
-      → (h : Trickle) × ((trickleOf h ≡ hear (trickleOf (d .local .trickle))) × (v ≡ withLocal (record { trickle = h; next = d .local .next }) d))
+      → (h : Trickle) × ((trickleOf h ≡ hear (trickleOf (d .local .trickle))) × (v ≡ localTrickle h d))
 
 -- a decision on the progress
 abbrev pub Notes : Context → Decision → Progress → List ℕ → Progress → List ℕ → Type 0

@@ -29,11 +29,12 @@ next (PublicCall.begins own clock rs r) s m l h = h .left
 next (PublicCall.resumes bytes clock rs r m′) s m l h = h .0 .left
 next (PublicCall.receives datagram clock endpoint unicast rs q r m′ q′) s m l h = h .left
 next (PublicCall.ticks clock endpoint rs q r m′ q′) s m l h = h .left
+next (PublicCall.chooses clock endpoint interval rs r m′) s m l h = h .0 .left
 next (PublicCall.pays clock p rs r m′) s m l h = h .0 .left
 next (PublicCall.purges clock rs r) s m l h = h .0 .left
 next (PublicCall.looks x) s m l h = l
 
-always : (xs : List PublicCall) (s : State) (m : List ℕ) → AsLeft s m → Trace s m xs → AsLeft (stateAtEnd s xs) (memoryAtEnd m xs)
+pub always : (xs : List PublicCall) (s : State) (m : List ℕ) → AsLeft s m → Trace s m xs → AsLeft (stateAtEnd s xs) (memoryAtEnd m xs)
 always [] s m l h = l
 always (x ∷ xs) s m l h = always xs (stateAfter x s) (memoryAfter x m) (next x s m l (h .0)) (h .1)
 
@@ -65,6 +66,8 @@ number (PublicCall.receives datagram clock endpoint unicast rs q r m′ q′) s 
     by-model (r .number) _ _ (sym (ap (λ (d : ModelAnswer). d .number) (h .is))) (refusals-exact .receives (callOf datagram clock endpoint unicast rs (length m) (length q)) (stateOf s m))
 number (PublicCall.ticks clock endpoint rs q r m′ q′) s m h =
     by-model (r .number) _ _ (sym (ap (λ (d : ModelSent). d .number) (h .is))) (refusals-exact .ticks clock endpoint rs (length m) (length q) (stateOf s m))
+number (PublicCall.chooses clock endpoint interval rs r m′) s m h =
+    by-model (r .number) _ _ (sym (ap (λ (d : ModelDone). d .number) (h .0 .is))) (refusals-exact .chooses clock endpoint interval rs (length m) (stateOf s m))
 number (PublicCall.pays clock p rs r m′) s m h =
     by-model (r .number) _ _ (sym (ap (λ (d : ModelDone). d .number) (h .0 .is))) (refusals-exact .pays clock p rs (length m) (stateOf s m))
 number (PublicCall.purges clock rs r) s m h =
@@ -108,6 +111,7 @@ bare (PublicCall.receives datagram clock endpoint unicast rs q r m′ q′) s m 
 bare (PublicCall.ticks clock endpoint rs q r m′ q′) s m h n =
     let e = h .is ∙ refusals-change-nothing .ticks clock endpoint rs (length m) (length q) (stateOf s m) (λ w. n (ap (λ (d : ModelSent). d .number) (h .is) ∙ w)) in
     (nothing-taken (r .length) q′ (h .within) (ap (λ (d : ModelSent). d .bytes) e), h .refused n .1 .1)
+bare (PublicCall.chooses clock endpoint interval rs r m′) s m h n = tt
 bare (PublicCall.pays clock p rs r m′) s m h n = tt
 bare (PublicCall.purges clock rs r) s m h n = tt
 bare (PublicCall.looks x) s m h n = look-bare x s m h n
@@ -117,6 +121,7 @@ same-state (PublicCall.begins own clock rs r) s m h n = (h .refused n .0, refl)
 same-state (PublicCall.resumes bytes clock rs r m′) s m h n = h .0 .refused n
 same-state (PublicCall.receives datagram clock endpoint unicast rs q r m′ q′) s m h n = (h .refused n .0, h .refused n .1 .0)
 same-state (PublicCall.ticks clock endpoint rs q r m′ q′) s m h n = (h .refused n .0, h .refused n .1 .0)
+same-state (PublicCall.chooses clock endpoint interval rs r m′) s m h n = h .0 .refused n
 same-state (PublicCall.pays clock p rs r m′) s m h n = h .0 .refused n
 same-state (PublicCall.purges clock rs r) s m h n = (h .0 .refused n .0, refl)
 same-state (PublicCall.looks x) s m h n = (refl, refl)

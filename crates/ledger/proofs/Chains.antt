@@ -19,10 +19,9 @@ use Rattle.model.specs.Digest.{networkDigest}
 use Rattle.model.specs.Show.{Marks as ModelMarks, refusalMarks, marks}
 use Rattle.model.specs.Totals.{Summed as ModelSummed, totalOf, sumOf, unreadable, paymentsIn}
 use Rattle.model.specs.Figures.{tableBytes}
-use Rattle.model.specs.Trickle.{event}
 use Rattle.model.specs.State.{State as ModelState, endpointAt, randomAt, settle}
 use Rattle.model.specs.Begin.{Done as ModelDone}
-use Rattle.model.specs.Tick.{Sent as ModelSent, dropSilent, announcement, ticked, refusalTick, tick}
+use Rattle.model.specs.Tick.{Sent as ModelSent, dropSilent, announcement, endpointEvent, ticked, refusalTick, tick}
 use Rattle.model.specs.Pay.{purged, refusalPurge, purge}
 use Rattle.model.specs.Handle.{Context, Work, oneTlv}
 use Rattle.model.specs.Receive.{Call, Answer as ModelAnswer, contextOf, startOf}
@@ -144,7 +143,7 @@ announces : (clock i : ℕ) (rs : List ℕ) (s : ModelState) → let r : ModelSe
     (r .bytes ≡ []) ⊎ (r .bytes ≡ endpointTlv (r .state .own) i ++ networkTlv (networkDigest (r .state .own) clock (r .state .table)))
 unfolding ticked settle
 announces clock i rs s =
-    go (event clock (randomAt i rs) (endpointAt i (settle clock rs (dropSilent clock i s)) .trickle) .sends)
+    go (endpointEvent clock (randomAt i rs) (endpointAt i (settle clock rs (dropSilent clock i s))) .sends)
   where
     go : (b : Bool) → (cond b (announcement i (settle clock rs (dropSilent clock i s))) [] ≡ []) ⊎ (cond b (announcement i (settle clock rs (dropSilent clock i s))) [] ≡ announcement i (settle clock rs (dropSilent clock i s)))
     go true = inr refl

@@ -1,11 +1,12 @@
 -- Calls that change state, refused or not, as the model's. Assumes nothing.
 use mathlib.Core.Path.{_≡_, refl, sym, ap, subst, _∙_}
-use mathlib.Core.Bool.{true, false}
+use mathlib.Core.Bool.{true, false, cond}
 use mathlib.Core.List.{List, [], _∷_}
 use mathlib.Core.Option.{Option, none, some}
 use Prim.Native.Nat.{ℕ, _+_, _≤_, _<_}
 use native.Mathlib.Omega.{arith}
 use lib.ListN.{length, length-map}
+use lib.Dec.{eqb}
 use borrow.Author.Tests.{ltb-false}
 use Rattle.base.specs.Lists.{All, isSome, orElse}
 use Rattle.base.proofs.Tests.{no-way}
@@ -15,10 +16,11 @@ use Rattle.wire.specs.Payment.{Payment, paymentTlv}
 use Rattle.model.specs.Figures.{publishLimit, tableBytes}
 use Rattle.model.specs.Sequence.{circle}
 use Rattle.model.specs.Table.{Entry}
-use Rattle.model.specs.Refusals.{Row, firstOf, late, back, smallTable, noHousehold, paidAlready, full}
+use Rattle.model.specs.Refusals.{Row, firstOf, late, back, noSuchEndpoint, noInterval, smallTable, noHousehold, paidAlready, full}
 use Rattle.model.specs.State.{State as ModelState, ownData}
 use Rattle.model.specs.Begin.{Done as ModelDone, freshEndpoints, started, begun, refusalBegin, begin}
 use Rattle.model.specs.Snapshot.{Snapshot, load, noSnapshot, resumed, refusalResume, resume}
+use Rattle.model.specs.KeepAlive.{withKeepAlive, chosen, noRoom, refusalKeepAlive, keepAlive}
 use Rattle.model.specs.Pay.{paid, refusalPay, pay, purged, refusalPurge, purge}
 use Rattle.model.specs.Invariant.{Valid}
 use Rattle.model.proofs.Kept.{invariant-kept}
@@ -29,7 +31,7 @@ use Rattle.node.specs.View.{stateOf, Moved, Published}
 use Rattle.node.proofs.Parts.{state-table}
 use Rattle.start.specs.declared.resume.Resumed.{Resumed}
 use Rattle.start.specs.Started.{ResumedFrom}
-use Rattle.ledger.specs.Promises.{AsLeft, Changes, Resumes, Pays, Purges}
+use Rattle.ledger.specs.Promises.{AsLeft, Changes, Publishes, Resumes, Chooses, Pays, Purges}
 use Rattle.ledger.proofs.Left.{rep-left, none-first, first-early, first-late}
 use Rattle.ledger.proofs.Answering.{as-refused, as-accepted}
 
@@ -100,22 +102,60 @@ module _ (s : State) (m : List ℕ) (l : AsLeft s m) (clock : ℕ) (rs : List �
       h .1,
     )
 
+  -- publishing: refused, and not
+  module _ (n k : ℕ) (e : n ≡ k) (a : ModelState) where
+    publish-no : ¬ (n ≡ 0) → Publishes (cond (eqb k 0) (done a) (told k)) s m (record { number = n; state = s }) m
+    publish-no z = (changes-refused (as-refused n k e (done a) told z) l, λ y. absurd (z y))
+
+    publish-yes : (r : State) (m′ : List ℕ) → n ≡ 0 → Published a s m r m′ → Valid (cond (eqb k 0) (done a) (told k) .state)
+        → Publishes (cond (eqb k 0) (done a) (told k)) s m (record { number = 0; state = r }) m′
+    publish-yes r m′ z h v =
+        let d : done a ≡ cond (eqb k 0) (done a) (told k) = as-accepted n k e (done a) told z in
+        (changes-moved d (h .moved) v, λ y. wrote-as h (ap (λ (x : ModelDone). x .state .table) d))
+
+  -- choosing an interval
+  module _ (i k : ℕ) where
+    module _ (n : ℕ) (e : n ≡ refusalKeepAlive clock i k (length m) (stateOf s m)) where
+      pub choice-no : ¬ (n ≡ 0) → Chooses clock i k rs s m (record { number = n; state = s }) m
+      unfolding keepAlive
+      choice-no z = publish-no n (refusalKeepAlive clock i k (length m) (stateOf s m)) e (chosen clock i k rs (stateOf s m)) z
+
+      pub choice-yes : (r : State) (m′ : List ℕ) → n ≡ 0 → tableBytes ≤ length m → Published (chosen clock i k rs (stateOf s m)) s m r m′
+          → Chooses clock i k rs s m (record { number = 0; state = r }) m′
+      unfolding keepAlive
+      choice-yes r m′ z room h =
+          publish-yes n (refusalKeepAlive clock i k (length m) (stateOf s m)) e (chosen clock i k rs (stateOf s m)) r m′ z h
+          (invariant-kept .chooses clock i k rs (length m) (stateOf s m) (l .valid room))
+
+    -- the refusals that need no table, then the one that reads our data
+    abbrev foremost : List Row
+    foremost = late clock ∷ back clock (stateOf s m) ∷ noSuchEndpoint i ∷ noInterval k ∷ smallTable (length m) ∷ []
+
+    abbrev hindmost : List Row
+    hindmost = noRoom i k (stateOf s m) ∷ []
+
+    pub choice-early : ¬ (firstOf foremost ≡ 0) → firstOf foremost ≡ refusalKeepAlive clock i k (length m) (stateOf s m)
+    choice-early z = sym (first-early foremost hindmost z)
+
+    pub choice-last : firstOf foremost ≡ 0 → firstOf hindmost ≡ refusalKeepAlive clock i k (length m) (stateOf s m)
+    choice-last e = sym (first-late foremost hindmost (omega arith) e)
+
+    pub choice-room : firstOf hindmost ≡ 0 → length (withKeepAlive i k (ownData (stateOf s m))) ≤ publishLimit
+    choice-room e = ltb-false publishLimit (length (withKeepAlive i k (ownData (stateOf s m)))) (none-first hindmost (omega arith) e .0)
+
   -- paying
   module _ (p : Payment) where
     module _ (n : ℕ) (e : n ≡ refusalPay clock p (length m) (stateOf s m)) where
       pub pay-no : ¬ (n ≡ 0) → Pays clock p rs s m (record { number = n; state = s }) m
       unfolding pay
-      pay-no z = (changes-refused (as-refused n (refusalPay clock p (length m) (stateOf s m)) e (done (paid clock p rs (stateOf s m))) told z) l, λ y. absurd (z y))
+      pay-no z = publish-no n (refusalPay clock p (length m) (stateOf s m)) e (paid clock p rs (stateOf s m)) z
 
       pub pay-yes : (r : State) (m′ : List ℕ) → n ≡ 0 → tableBytes ≤ length m → Published (paid clock p rs (stateOf s m)) s m r m′
           → Pays clock p rs s m (record { number = 0; state = r }) m′
       unfolding pay
       pay-yes r m′ z room h =
-          let a : done (paid clock p rs (stateOf s m)) ≡ pay clock p rs (length m) (stateOf s m) =
-          as-accepted n (refusalPay clock p (length m) (stateOf s m)) e (done (paid clock p rs (stateOf s m))) told z in (
-            changes-moved a (h .moved) (invariant-kept .pays clock p rs (length m) (stateOf s m) (l .valid room)),
-            λ y. wrote-as h (ap (λ (x : ModelDone). x .state .table) a),
-          )
+          publish-yes n (refusalPay clock p (length m) (stateOf s m)) e (paid clock p rs (stateOf s m)) r m′ z h
+          (invariant-kept .pays clock p rs (length m) (stateOf s m) (l .valid room))
 
     -- the refusals that need no table, then those that read our data
     abbrev early : List Row

@@ -11,16 +11,16 @@ use borrow.Author.Tests.{eqb-true, eqb-false, le-leb}
 use Rattle.base.specs.Signed.{sumℤ}
 use Rattle.base.proofs.Tests.{by-test}
 use Rattle.wire.specs.Payment.{mostHousehold}
-use Rattle.model.specs.Figures.{tableBytes}
+use Rattle.model.specs.Figures.{tableBytes, mostBytes, lastReading}
 use Rattle.model.specs.Table.{Entry, statements}
 use Rattle.model.specs.State.{State as ModelState}
 use Rattle.model.specs.Tick.{Sent as ModelSent, ticked}
 use Rattle.model.specs.Receive.{Call, Answer as ModelAnswer}
 use Rattle.model.specs.Totals.{Summed as ModelSummed, totalOf, refusalSum, refusalTotal}
 use Rattle.model.specs.Refusals.{firstOf, late, back, smallTable, noHousehold}
-use Rattle.model.specs.Theorems.{upFrom, Form}
+use Rattle.model.specs.Theorems.{OneAtMost, upFrom, Form}
 use Rattle.model.proofs.Refusals.{refusals-exact}
-use Rattle.model.proofs.TwoTicks.{two-ticks}
+use Rattle.model.proofs.ThreeTicks.{three-ticks}
 use Rattle.model.proofs.Totals.{totals-add-up}
 use Rattle.model.proofs.Sent.{sent-form}
 use Rattle.table.specs.View.{Wrote}
@@ -32,56 +32,99 @@ use Rattle.node.specs.declared.answers.Sent.{Sent}
 use Rattle.node.specs.declared.answers.Answer.{Answer}
 use Rattle.ledger.specs.declared.answers.Summed.{Summed}
 use Rattle.ledger.specs.Promises.{AsLeft, Receives, Ticks, Totals, SumsUp}
-use Rattle.ledger.specs.Calls.{PublicCall}
-use Rattle.ledger.specs.Demands.{OverPromises}
+use Rattle.ledger.specs.Calls.{Promised, Trace}
+use Rattle.ledger.specs.Demands.{Ticking, tickAt, sentBy, OverPromises}
 use Rattle.ledger.proofs.Left.{endpoint-accepted, first-late}
 use Rattle.ledger.proofs.Calls.{nothing-taken, refusals-leave-all}
 use Rattle.ledger.proofs.Chains.{counted, sum-counted, total-counted, ticks-as}
 
 -- ---- ticks
 
-module _ (clock endpoint : ℕ) (s : State) (m : List ℕ) (l : AsLeft s m) (rs q : List ℕ) (a : Sent) (m₁ q₁ : List ℕ) (h : Ticks clock endpoint rs s m q a m₁ q₁) (y : a .number ≡ 0)
-    (rs₂ p : List ℕ) (b : Sent) (m₂ p₂ : List ℕ) (i : Ticks clock endpoint rs₂ (a .state) m₁ p b m₂ p₂) (z : b .number ≡ 0)
-    (rs₃ o : List ℕ) (c : Sent) (m₃ o₃ : List ℕ) (j : Ticks clock endpoint rs₃ (b .state) m₂ o c m₃ o₃) where
-  abbrev calm : ModelState
-  calm = ticked clock endpoint rs₂ (ticked clock endpoint rs (stateOf s m) .state) .state
+-- what an accepted tick answers is the model's
+module _ (clock endpoint : ℕ) (s : State) (m : List ℕ) (x : Ticking) (h : Promised (tickAt clock endpoint x) s m) (y : x .answer .number ≡ 0) where
+  abbrev pub answerOf : ModelSent
+  answerOf = record { number = x .answer .number; state = stateOf (x .answer .state) (x .memory); bytes = sentBy x }
 
-  left-calm : stateOf (b .state) m₂ ≡ calm
-  left-calm =
-      ap (λ (x : ModelSent). x .state) (ticks-as clock endpoint rs₂ (a .state) m₁ p b m₂ p₂ i z)
-      ∙ ap (λ (v : ModelState). ticked clock endpoint rs₂ v .state) (ap (λ (x : ModelSent). x .state) (ticks-as clock endpoint rs s m q a m₁ q₁ h y))
+  pub tick-as : answerOf ≡ ticked clock endpoint (x .randoms) (stateOf s m)
+  tick-as = ticks-as clock endpoint (x .randoms) s m (x .room) (x .answer) (x .memory) (x .written) h y
 
-  nothing-due : ticked clock endpoint rs₃ calm ≡ record { number = 0; state = calm; bytes = [] }
-  nothing-due =
-      let n = ap (λ (x : ModelSent). x .number) (h .is) ∙ refusals-exact .ticks clock endpoint rs (length m) (length q) (stateOf s m) .answered in
-      let r = endpoint-accepted clock (stateOf s m) endpoint (length m) (length q) [] tt (sym n ∙ y) in
-      two-ticks .rest (stateOf s m) clock endpoint rs rs₂ rs₃ (l .valid (r .1 .1 .1 .0)) (r .1 .0) (r .0) (r .1 .1 .0 .0) (r .1 .1 .0 .1)
+  pub tick-in-order : (clock ≤ lastReading) × ((stateOf s m .last ≤ clock) × (((1 ≤ endpoint) × (endpoint ≤ 4)) × ((tableBytes ≤ length m) × (mostBytes ≤ length (x .room)))))
+  tick-in-order =
+      let n = ap (λ (a : ModelSent). a .number) (h .is) ∙ refusals-exact .ticks clock endpoint (x .randoms) (length m) (length (x .room)) (stateOf s m) .answered in
+      endpoint-accepted clock (stateOf s m) endpoint (length m) (length (x .room)) [] tt (sym n ∙ y)
 
-  -- the third tick accepted
-  module _ (y₃ : c .number ≡ 0) where
-    as-before : _≡_ {A = ModelSent} (record { number = c .number; state = stateOf (c .state) m₃; bytes = take (c .length) o₃ }) (record { number = 0; state = stateOf (b .state) m₂; bytes = [] })
-    as-before =
-        ticks-as clock endpoint rs₃ (b .state) m₂ o c m₃ o₃ j y₃ ∙ ap (ticked clock endpoint rs₃) left-calm ∙ nothing-due
-        ∙ ap (λ (v : ModelState). record { number = 0; state = v; bytes = [] }) (sym left-calm)
+module _ (clock endpoint : ℕ) (s : State) (m : List ℕ) (a b c : Ticking) (l : AsLeft s m) (t : Trace s m (map (tickAt clock endpoint) (a ∷ b ∷ c ∷ [])))
+    (ya : a .answer .number ≡ 0) (yb : b .answer .number ≡ 0) (yc : c .answer .number ≡ 0) where
+  -- the model's three ticks
+  abbrev first : ModelSent
+  first = ticked clock endpoint (a .randoms) (stateOf s m)
 
-    none-sent : c .length ≡ 0
-    none-sent = nothing-taken (c .length) o₃ (j .within) (ap (λ (x : ModelSent). x .bytes) as-before)
+  abbrev second : ModelSent
+  second = ticked clock endpoint (b .randoms) (first .state)
 
-    memory-same : m₃ ≡ m₂
-    unfolding stateOf
-    memory-same =
-        let n = ap (λ (x : ModelSent). x .number) (j .is) ∙ refusals-exact .ticks clock endpoint rs₃ (length m₂) (length o) (stateOf (b .state) m₂) .answered in
-        let room : tableBytes ≤ length m₂ = endpoint-accepted clock (stateOf (b .state) m₂) endpoint (length m₂) (length o) [] tt (sym n ∙ y₃) .1 .1 .1 .0 in
-        wrote-again (b .state .table) (c .state .table) m₂ m₃ (record { arranged = i .left .arranged; room = room; hashed = i .left .hashed room })
-        (subst (λ (t : List Entry). Wrote (b .state .table) m₂ t (c .state .table) m₃) (ap (λ (x : ModelSent). x .state .table) (sym (j .is) ∙ as-before)) (j .wrote y₃))
+  abbrev third : ModelSent
+  third = ticked clock endpoint (c .randoms) (second .state)
 
-  third : (c .length ≡ 0) × (o₃ ≡ o) × (m₃ ≡ m₂) × (stateOf (c .state) m₃ ≡ stateOf (b .state) m₂)
-  third =
-      by-test (eqb (c .number) 0)
-      (λ t. let y₃ : c .number ≡ 0 = eqb-true (c .number) 0 t in
-      (none-sent y₃, subst (λ (n : ℕ). drop n o₃ ≡ drop n o) (none-sent y₃) (j .rest), memory-same y₃, ap (λ (x : ModelSent). x .state) (as-before y₃)))
-      (λ t. let r = refusals-leave-all .refused (PublicCall.ticks clock endpoint rs₃ o c m₃ o₃) (b .state) m₂ j (eqb-false (c .number) 0 t) in
-      (r .1 .1 .0, r .1 .1 .1, r .1 .0, ap (λ (v : State). stateOf v m₃) (r .0) ∙ ap (stateOf (b .state)) (r .1 .0)))
+  first-is : answerOf clock endpoint s m a (t .0) ya ≡ first
+  first-is = tick-as clock endpoint s m a (t .0) ya
+
+  second-is : answerOf clock endpoint (a .answer .state) (a .memory) b (t .1 .0) yb ≡ second
+  second-is =
+      tick-as clock endpoint (a .answer .state) (a .memory) b (t .1 .0) yb ∙ ap (λ (x : ModelSent). ticked clock endpoint (b .randoms) (x .state)) first-is
+
+  third-is : answerOf clock endpoint (b .answer .state) (b .memory) c (t .1 .1 .0) yc ≡ third
+  third-is =
+      tick-as clock endpoint (b .answer .state) (b .memory) c (t .1 .1 .0) yc ∙ ap (λ (x : ModelSent). ticked clock endpoint (c .randoms) (x .state)) second-is
+
+  accepted : (clock ≤ lastReading) × ((stateOf s m .last ≤ clock) × (((1 ≤ endpoint) × (endpoint ≤ 4)) × ((tableBytes ≤ length m) × (mostBytes ≤ length (a .room)))))
+  accepted = tick-in-order clock endpoint s m a (t .0) ya
+
+  one-sends : OneAtMost (sentBy a) (sentBy b) (sentBy c)
+  one-sends =
+      let r = accepted in
+      rw (ap (λ (x : ModelSent). x .bytes) first-is, ap (λ (x : ModelSent). x .bytes) second-is, ap (λ (x : ModelSent). x .bytes) third-is)
+      (three-ticks .once (stateOf s m) clock endpoint (a .randoms) (b .randoms) (c .randoms) (l .valid (r .1 .1 .1 .0)) (r .1 .1 .0 .0) (r .1 .1 .0 .1))
+
+  -- a fourth
+  module _ (d : Ticking) (h : Promised (tickAt clock endpoint d) (c .answer .state) (c .memory)) where
+    abbrev calm : ModelState
+    calm = stateOf (c .answer .state) (c .memory)
+
+    nothing-due : ticked clock endpoint (d .randoms) calm ≡ record { number = 0; state = calm; bytes = [] }
+    nothing-due =
+        let r = accepted in
+        let e : calm ≡ third .state = ap (λ (x : ModelSent). x .state) third-is in
+        subst (λ (v : ModelState). ticked clock endpoint (d .randoms) v ≡ record { number = 0; state = v; bytes = [] }) (sym e)
+        (three-ticks .rest (stateOf s m) clock endpoint (a .randoms) (b .randoms) (c .randoms) (d .randoms) (l .valid (r .1 .1 .1 .0)) (r .1 .1 .0 .0) (r .1 .1 .0 .1))
+
+    -- accepted
+    module _ (yd : d .answer .number ≡ 0) where
+      as-before : answerOf clock endpoint (c .answer .state) (c .memory) d h yd ≡ record { number = 0; state = calm; bytes = [] }
+      as-before = tick-as clock endpoint (c .answer .state) (c .memory) d h yd ∙ nothing-due
+
+      none-sent : d .answer .length ≡ 0
+      none-sent = nothing-taken (d .answer .length) (d .written) (h .within) (ap (λ (x : ModelSent). x .bytes) as-before)
+
+      memory-same : d .memory ≡ c .memory
+      unfolding stateOf
+      memory-same =
+          let room : tableBytes ≤ length (c .memory) = tick-in-order clock endpoint (c .answer .state) (c .memory) d h yd .1 .1 .1 .0 in
+          let k : AsLeft (c .answer .state) (c .memory) = t .1 .1 .0 .left in
+          wrote-again (c .answer .state .table) (d .answer .state .table) (c .memory) (d .memory) (record { arranged = k .arranged; room = room; hashed = k .hashed room })
+          (subst (λ (es : List Entry). Wrote (c .answer .state .table) (c .memory) es (d .answer .state .table) (d .memory))
+          (ap (λ (x : ModelSent). x .state .table) (sym (h .is) ∙ as-before)) (h .wrote yd))
+
+    fourth : (d .answer .length ≡ 0) × (d .written ≡ d .room) × (d .memory ≡ c .memory) × (stateOf (d .answer .state) (d .memory) ≡ calm)
+    fourth =
+        by-test (eqb (d .answer .number) 0)
+        (λ q. let y : d .answer .number ≡ 0 = eqb-true (d .answer .number) 0 q in (
+          none-sent y,
+          subst (λ (n : ℕ). drop n (d .written) ≡ drop n (d .room)) (none-sent y) (h .rest),
+          memory-same y,
+          ap (λ (x : ModelSent). x .state) (as-before y),
+        ))
+        (λ q. let r = refusals-leave-all .refused (tickAt clock endpoint d) (c .answer .state) (c .memory) h (eqb-false (d .answer .number) 0 q) in
+        (r .1 .1 .0, r .1 .1 .1, r .1 .0, ap (λ (v : State). stateOf v (d .memory)) (r .0) ∙ ap (stateOf (c .answer .state)) (r .1 .0)))
 
 -- ---- totals
 
@@ -129,4 +172,11 @@ announced clock endpoint randoms s m q r m′ q′ h =
     subst (Form (s .own) endpoint) (sym (ap (λ (a : ModelSent). a .bytes) (h .is))) (sent-form .ticks clock endpoint randoms (length m) (length q) (stateOf s m))
 
 pub over-promises : OverPromises
-over-promises = record { ticks = third; households = λ clock s m r e z t each. (add-up clock s m r e z t each, one-count clock s m r e z t each); answered = answered; announced = announced }
+over-promises =
+    record {
+      ticks = λ clock i s m a b c d l t x y z. fourth clock i s m a b c l (t .0, (t .1 .0, (t .1 .1 .0, tt))) x y z d (t .1 .1 .1 .0);
+      once = one-sends;
+      households = λ clock s m r e z t each. (add-up clock s m r e z t each, one-count clock s m r e z t each);
+      answered = answered;
+      announced = announced;
+    }

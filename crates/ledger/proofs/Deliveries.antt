@@ -175,7 +175,7 @@ module _ (s : State) (m : List ℕ) (clock : ℕ) where
         let ids : map idOf (tableThen s m xs) ≡ map idOf (tableThen s m ys) =
         ids-says (tableThen s m xs) ∙ ap (map (λ (x : Statement). x .node)) (tables s m xs ys d e same) ∙ sym (ids-says (tableThen s m ys)) in
         let n : map idOf (reached (s .own) clock (tableThen s m xs)) ≡ map idOf (reached (s .own) clock (tableThen s m ys)) =
-        ids-reached (s .own) clock (tableThen s m xs) ∙ keep-same (inReach (s .own) clock (tableThen s m xs)) (inReach (s .own) clock (tableThen s m ys)) (map idOf (tableThen s m xs)) (r .0)
+        ids-reached (s .own) clock (tableThen s m xs) ∙ keep-same (inReach (s .own) clock (tableThen s m xs)) (inReach (s .own) clock (tableThen s m ys)) (map idOf (tableThen s m xs)) (λ n k. r .0 n)
         ∙ ap (keep (inReach (s .own) clock (tableThen s m ys))) ids ∙ sym (ids-reached (s .own) clock (tableThen s m ys)) in
         λ i. record { number = 0; nodes = n i; digest = r .1 i }
 

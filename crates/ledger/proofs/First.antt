@@ -43,7 +43,7 @@ alone-digest = states-read-back .alone 0 0 (entryOf 0 0 [] (anew 0)) refl ∙ ap
 -- node 0 with no data, whatever stands in the places that do not count
 abbrev first : List Meta → List Peer → State
 first l p =
-    let e : Endpoint = record { trickle = record { start = 0; point = 100; interval = 200; count = 0; spent = false }; next = 0 } in
+    let e : Endpoint = record { trickle = record { start = 0; point = 100; interval = 200; count = 0; spent = false }; next = 0; keep = 20000; quiet = 0 } in
     record {
       own = 0;
       last = 0;

@@ -9,11 +9,12 @@ use lib.Dec.{eqb, ltb}
 use borrow.Author.Tests.{ltb-false}
 use Rattle.base.specs.Lists.{All}
 use Rattle.base.proofs.Tests.{by-test, or-left, or-right}
-use Rattle.model.specs.Figures.{tableBytes, mostBytes, lastReading}
-use Rattle.model.specs.Refusals.{Row, firstOf, late, back, noSuchEndpoint, smallTable, smallRoom}
+use Rattle.model.specs.Figures.{tableBytes, mostBytes, lastReading, mostKeepAlive}
+use Rattle.model.specs.Refusals.{Row, firstOf, late, back, noSuchEndpoint, noInterval, smallTable, smallRoom}
 use Rattle.model.specs.State.{State as ModelState}
 use Rattle.model.specs.Invariant.{Valid, Midway}
 use Rattle.model.proofs.KeptParts.{none-applies, not-late, not-back, one-to-four, valid-midway}
+use Rattle.model.proofs.KeptChoice.{in-range}
 use Rattle.node.specs.declared.State.{State}
 use Rattle.node.specs.View.{stateOf, Rep}
 use Rattle.ledger.specs.Promises.{AsLeft}
@@ -87,6 +88,13 @@ module _ (clock : ℕ) (s : ModelState) where
       let rows : List Row = late clock ∷ back clock s ∷ smallRoom table room least ∷ [] in
       let a : All (λ r. r .applies ≡ false) rows = none-first rows (omega arith) e in
       (not-late clock (a .0), (not-back clock s (a .1 .0), not-small-room table room least (a .1 .1 .0)))
+
+  pub interval-accepted : (endpoint interval table : ℕ) → firstOf (late clock ∷ back clock s ∷ noSuchEndpoint endpoint ∷ noInterval interval ∷ smallTable table ∷ []) ≡ 0
+      → (clock ≤ lastReading) × ((s .last ≤ clock) × (((1 ≤ endpoint) × (endpoint ≤ 4)) × (((1 ≤ interval) × (interval ≤ mostKeepAlive)) × (tableBytes ≤ table))))
+  interval-accepted endpoint interval table e =
+      let rows : List Row = late clock ∷ back clock s ∷ noSuchEndpoint endpoint ∷ noInterval interval ∷ smallTable table ∷ [] in
+      let a : All (λ r. r .applies ≡ false) rows = none-first rows (omega arith) e in
+      (not-late clock (a .0), (not-back clock s (a .1 .0), (one-to-four endpoint (a .1 .1 .0), (in-range interval (a .1 .1 .1 .0), not-small table (a .1 .1 .1 .1 .0)))))
 
   pub endpoint-accepted : (endpoint table room : ℕ) (more : List Row) → Numbered more → firstOf (late clock ∷ back clock s ∷ noSuchEndpoint endpoint ∷ smallRoom table room mostBytes ∷ more) ≡ 0
       → (clock ≤ lastReading) × ((s .last ≤ clock) × (((1 ≤ endpoint) × (endpoint ≤ 4)) × ((tableBytes ≤ table) × (mostBytes ≤ room))))

@@ -14,5 +14,6 @@ pub mod Chains
 pub mod Deliveries
 pub mod Traffic
 pub mod OwnPayments
+pub mod Quiet
 pub mod Corollaries
 pub mod Returns

@@ -10,8 +10,8 @@ use borrow.Author.Tests.{lt-ltb, le-ltb, lt-leb, le-leb}
 use Rattle.base.proofs.Tests.{by-test, and-no, not-no}
 use Rattle.wire.specs.Row.{isRow}
 use Rattle.wire.specs.Payment.{mostHousehold}
-use Rattle.model.specs.Figures.{lastReading, tableBytes, mostBytes, mostEndpoints}
-use Rattle.model.specs.Refusals.{Row, firstOf, late, back, noSuchEndpoint, smallTable, smallRoom, long, noRow, noHousehold}
+use Rattle.model.specs.Figures.{lastReading, tableBytes, mostBytes, mostEndpoints, mostKeepAlive}
+use Rattle.model.specs.Refusals.{Row, firstOf, late, back, noSuchEndpoint, noInterval, smallTable, smallRoom, long, noRow, noHousehold}
 use Rattle.model.specs.State.{State as ModelState}
 use Rattle.ledger.proofs.Left.{Numbered, first-early, first-late}
 
@@ -54,7 +54,7 @@ module _ (clock last : ℕ) (s : ModelState) (e : s .last ≡ last) (rest : List
   pub clock-fine : clock ≤ lastReading → last ≤ clock → (n : ℕ) → n ≡ firstOf rest → n ≡ firstOf (late clock ∷ back clock s ∷ rest)
   clock-fine p q n h = rw (le-ltb lastReading clock p, le-ltb clock (s .last) (omega arith)) h
 
--- ---- lent memory, endpoint and household
+-- ---- lent memory, household, endpoint and interval
 
 pub table-small : (table : ℕ) → table < tableBytes → 4 ≡ firstOf (smallTable table ∷ [])
 table-small table h = rw (lt-ltb table tableBytes h)
@@ -72,22 +72,35 @@ module _ (household : ℕ) where
   pub household-fine : 1 ≤ household → household ≤ mostHousehold → 0 ≡ firstOf (noHousehold household ∷ [])
   household-fine p q = rw (one-to-most mostHousehold household p q)
 
-module _ (endpoint table room : ℕ) where
-  pub endpoint-low : endpoint < 1 → 3 ≡ firstOf (noSuchEndpoint endpoint ∷ smallRoom table room mostBytes ∷ [])
+module _ (endpoint : ℕ) where
+  pub endpoint-low : endpoint < 1 → 3 ≡ firstOf (noSuchEndpoint endpoint ∷ [])
   endpoint-low h = rw (under-one mostEndpoints endpoint h)
 
-  pub endpoint-high : mostEndpoints < endpoint → 3 ≡ firstOf (noSuchEndpoint endpoint ∷ smallRoom table room mostBytes ∷ [])
+  pub endpoint-high : mostEndpoints < endpoint → 3 ≡ firstOf (noSuchEndpoint endpoint ∷ [])
   endpoint-high h = rw (over-most mostEndpoints endpoint h)
 
-  module _ (p : 1 ≤ endpoint) (q : endpoint ≤ mostEndpoints) where
-    pub endpoint-table : table < tableBytes → 4 ≡ firstOf (noSuchEndpoint endpoint ∷ smallRoom table room mostBytes ∷ [])
-    endpoint-table h = rw (one-to-most mostEndpoints endpoint p q, lt-ltb table tableBytes h)
+  pub endpoint-fine : 1 ≤ endpoint → endpoint ≤ mostEndpoints → 0 ≡ firstOf (noSuchEndpoint endpoint ∷ [])
+  endpoint-fine p q = rw (one-to-most mostEndpoints endpoint p q)
 
-    pub endpoint-room : tableBytes ≤ table → room < mostBytes → 4 ≡ firstOf (noSuchEndpoint endpoint ∷ smallRoom table room mostBytes ∷ [])
-    endpoint-room t h = rw (one-to-most mostEndpoints endpoint p q, le-ltb table tableBytes t, lt-ltb room mostBytes h)
+module _ (interval : ℕ) (rest : List Row) where
+  pub interval-low : interval < 1 → 12 ≡ firstOf (noInterval interval ∷ rest)
+  interval-low h = rw (under-one mostKeepAlive interval h)
 
-    pub endpoint-fine : tableBytes ≤ table → mostBytes ≤ room → 0 ≡ firstOf (noSuchEndpoint endpoint ∷ smallRoom table room mostBytes ∷ [])
-    endpoint-fine t h = rw (one-to-most mostEndpoints endpoint p q, le-ltb table tableBytes t, le-ltb room mostBytes h)
+  pub interval-high : mostKeepAlive < interval → 12 ≡ firstOf (noInterval interval ∷ rest)
+  interval-high h = rw (over-most mostKeepAlive interval h)
+
+  pub interval-fine : 1 ≤ interval → interval ≤ mostKeepAlive → (n : ℕ) → n ≡ firstOf rest → n ≡ firstOf (noInterval interval ∷ rest)
+  interval-fine p q n h = rw (one-to-most mostKeepAlive interval p q) h
+
+module _ (table room : ℕ) where
+  pub sent-table : table < tableBytes → 4 ≡ firstOf (smallRoom table room mostBytes ∷ [])
+  sent-table h = rw (lt-ltb table tableBytes h)
+
+  pub sent-room : tableBytes ≤ table → room < mostBytes → 4 ≡ firstOf (smallRoom table room mostBytes ∷ [])
+  sent-room t h = rw (le-ltb table tableBytes t, lt-ltb room mostBytes h)
+
+  pub sent-fine : tableBytes ≤ table → mostBytes ≤ room → 0 ≡ firstOf (smallRoom table room mostBytes ∷ [])
+  sent-fine t h = rw (le-ltb table tableBytes t, le-ltb room mostBytes h)
 
 -- ---- the room for a snapshot: table memory and room have one number, so the row is two rows
 

@@ -61,6 +61,9 @@ grows (PublicCall.receives datagram clock endpoint unicast rs q r m′ q′) s m
 grows (PublicCall.ticks clock endpoint rs q r m′ q′) s m l h f =
     still (paymentsAt (r .state) m′) (paymentsAt s m)
     (ap (λ (a : ModelSent). ownPayments (a .state)) (h .is) ∙ own-payments-stay .ticks clock endpoint rs (length m) (length q) (stateOf s m))
+grows (PublicCall.chooses clock endpoint interval rs r m′) s m l h f =
+    still (paymentsAt (r .state) m′) (paymentsAt s m)
+    (ap (λ (a : ModelDone). ownPayments (a .state)) (h .0 .is) ∙ own-payments-stay .chooses clock endpoint interval rs (length m) (stateOf s m))
 grows (PublicCall.pays clock p rs r m′) s m l h f = λ t.
     by-test (eqb (r .number) 0)
     (λ b. let z = sym (ap (λ (a : ModelDone). a .number) (h .0 .is)) ∙ eqb-true (r .number) 0 b in

@@ -33,6 +33,7 @@ size (PublicCall.begins own clock rs r) s m h = refl
 size (PublicCall.resumes bytes clock rs r m′) s m h = h .0 .size
 size (PublicCall.receives datagram clock endpoint unicast rs q r m′ q′) s m h = h .size
 size (PublicCall.ticks clock endpoint rs q r m′ q′) s m h = h .size
+size (PublicCall.chooses clock endpoint interval rs r m′) s m h = h .0 .size
 size (PublicCall.pays clock p rs r m′) s m h = h .0 .size
 size (PublicCall.purges clock rs r) s m h = refl
 size (PublicCall.looks x) s m h = refl
@@ -42,6 +43,7 @@ beyond (PublicCall.begins own clock rs r) s m h = refl
 beyond (PublicCall.resumes bytes clock rs r m′) s m h = h .0 .beyond
 beyond (PublicCall.receives datagram clock endpoint unicast rs q r m′ q′) s m h = h .beyond
 beyond (PublicCall.ticks clock endpoint rs q r m′ q′) s m h = h .beyond
+beyond (PublicCall.chooses clock endpoint interval rs r m′) s m h = h .0 .beyond
 beyond (PublicCall.pays clock p rs r m′) s m h = h .0 .beyond
 beyond (PublicCall.purges clock rs r) s m h = refl
 beyond (PublicCall.looks x) s m h = refl
@@ -65,6 +67,7 @@ exactly (PublicCall.resumes bytes clock rs r m′) s m h z =
     lays-loaded bytes clock rs r m′ s m h z (load clock bytes) refl (numbers-exact .number (PublicCall.resumes bytes clock rs r m′) s m h .none .0 z .1 .1 .0)
 exactly (PublicCall.receives datagram clock endpoint unicast rs q r m′ q′) s m h z = h .wrote z .lays
 exactly (PublicCall.ticks clock endpoint rs q r m′ q′) s m h z = h .wrote z .lays
+exactly (PublicCall.chooses clock endpoint interval rs r m′) s m h z = h .1 z .lays
 exactly (PublicCall.pays clock p rs r m′) s m h z = h .1 z .lays
 exactly (PublicCall.purges clock rs r) s m h z = wrote-none (r .state .table) m .lays
 exactly (PublicCall.looks x) s m h z = wrote-none (s .table) m .lays
@@ -98,6 +101,12 @@ outcome x s m h = by-number (numberOf x s m) (λ n. inl (refusals-leave-all .ref
           arranged = h .left .arranged;
           lays = h .wrote z .lays;
         })
+    accepted (PublicCall.chooses clock endpoint interval rs r m′) s m h z =
+        inr (record {
+          room = not-small (length m) (numbers-exact .number (PublicCall.chooses clock endpoint interval rs r m′) s m h .none .0 z .1 .1 .1 .1 .0);
+          arranged = h .0 .left .arranged;
+          lays = h .1 z .lays;
+        })
     accepted (PublicCall.pays clock p rs r m′) s m h z =
         inr (record {
           room = not-small (length m) (numbers-exact .number (PublicCall.pays clock p rs r m′) s m h .none .0 z .1 .1 .0);
@@ -129,6 +138,7 @@ slots x s m h f n y z e g =
     accepted (PublicCall.resumes bytes clock rs r m′) s m h f k = no-way true refl f
     accepted (PublicCall.receives datagram clock endpoint unicast rs q r m′ q′) s m h f k = stay-slots (s .table) (r .state .table) (h .wrote k .slots)
     accepted (PublicCall.ticks clock endpoint rs q r m′ q′) s m h f k = stay-slots (s .table) (r .state .table) (h .wrote k .slots)
+    accepted (PublicCall.chooses clock endpoint interval rs r m′) s m h f k = stay-slots (s .table) (r .state .table) (h .1 k .slots)
     accepted (PublicCall.pays clock p rs r m′) s m h f k = stay-slots (s .table) (r .state .table) (h .1 k .slots)
     accepted (PublicCall.purges clock rs r) s m h f k = λ n y z e g. sym (stay-slots (r .state .table) (s .table) (h .1) n z y g e)
     accepted (PublicCall.looks x) s m h f k = stay-slots (s .table) (s .table) (stays-self (s .table))

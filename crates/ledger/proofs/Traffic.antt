@@ -17,6 +17,7 @@ use Rattle.model.specs.Table.{Statement, idOf, statements}
 use Rattle.model.specs.State.{State as ModelState}
 use Rattle.model.specs.Begin.{Done as ModelDone}
 use Rattle.model.specs.Tick.{Sent as ModelSent, tick}
+use Rattle.model.specs.KeepAlive.{keepAlive}
 use Rattle.model.specs.Pay.{pay}
 use Rattle.model.specs.Receive.{Answer as ModelAnswer}
 use Rattle.model.specs.Delivery.{Holds}
@@ -47,6 +48,7 @@ one-turn (PublicCall.begins own clock rs r) s m f h = no-way false f refl
 one-turn (PublicCall.resumes bytes clock rs r m′) s m f h = no-way false f refl
 one-turn (PublicCall.receives datagram clock endpoint unicast rs q r m′ q′) s m f h = sym (ap (λ (a : ModelAnswer). a .state) (h .is))
 one-turn (PublicCall.ticks clock endpoint rs q r m′ q′) s m f h = sym (ap (λ (a : ModelSent). a .state) (h .is))
+one-turn (PublicCall.chooses clock endpoint interval rs r m′) s m f h = sym (ap (λ (a : ModelDone). a .state) (h .0 .is))
 one-turn (PublicCall.pays clock p rs r m′) s m f h = sym (ap (λ (a : ModelDone). a .state) (h .0 .is))
 one-turn (PublicCall.purges clock rs r) s m f h = no-way false f refl
 one-turn (PublicCall.looks x) s m f h = refl
@@ -72,6 +74,10 @@ module _ (n : ℕ) (short : n < tableBytes) (v : ModelState) where
       (refusals-change-nothing .ticks clock i rs n room v
       (λ z. omega (arith, short, not-small-room n room mostBytes (refusals-exact .ticks clock i rs n room v .none .0 z .1 .1 .1 .0) .0)))
 
+  choice-idle : (clock i k : ℕ) (rs : List ℕ) → keepAlive clock i k rs n v .state ≡ v
+  choice-idle clock i k rs =
+      refusals-change-nothing .chooses clock i k rs n v (λ z. omega (arith, short, not-small n (refusals-exact .chooses clock i k rs n v .none .0 z .1 .1 .1 .1 .0)))
+
   pay-idle : (clock : ℕ) (p : Payment) (rs : List ℕ) → pay clock p rs n v .state ≡ v
   pay-idle clock p rs =
       refusals-change-nothing .pays clock p rs n v (λ z. omega (arith, short, not-small n (refusals-exact .pays clock p rs n v .none .0 z .1 .1 .0)))
@@ -83,6 +89,7 @@ module _ (n : ℕ) (short : n < tableBytes) (v : ModelState) where
   turn-idle (PublicCall.receives datagram clock endpoint unicast rs q r m′ q′) =
       (not-moved v (callOf datagram clock endpoint unicast rs n (length q)) short, rw (not-accepted v (callOf datagram clock endpoint unicast rs n (length q)) short))
   turn-idle (PublicCall.ticks clock endpoint rs q r m′ q′) = (tick-idle clock endpoint rs (length q), refl)
+  turn-idle (PublicCall.chooses clock endpoint interval rs r m′) = (choice-idle clock endpoint interval rs, refl)
   turn-idle (PublicCall.pays clock p rs r m′) = (pay-idle clock p rs, refl)
   turn-idle (PublicCall.purges clock rs r) = (refl, refl)
   turn-idle (PublicCall.looks x) = (refl, refl)

@@ -9,8 +9,9 @@ use Rattle.base.specs.Lists.{orElse}
 use Rattle.wire.specs.Payment.{Payment}
 use Rattle.model.specs.Figures.{mostNodes, mostBytes, snapshotBytes}
 use Rattle.model.specs.Table.{Entry}
-use Rattle.model.specs.Refusals.{Row, late, back, noSuchEndpoint, smallTable, smallRoom, long, noRow, noHousehold, paidAlready, full, noSuchNode}
+use Rattle.model.specs.Refusals.{Row, late, back, noSuchEndpoint, smallTable, smallRoom, long, noRow, noHousehold, paidAlready, full, noInterval, noSuchNode}
 use Rattle.model.specs.Tick.{tick}
+use Rattle.model.specs.KeepAlive.{noRoom, keepAlive}
 use Rattle.model.specs.Pay.{pay}
 use Rattle.model.specs.Show.{refusalShow}
 use Rattle.model.specs.Snapshot.{load, resumed, noSnapshot}
@@ -24,7 +25,7 @@ use Rattle.ledger.specs.declared.answers.Summed.{Summed}
 use Rattle.ledger.specs.declared.answers.Marked.{Marked}
 use Rattle.ledger.specs.declared.answers.Saved.{Saved}
 use Rattle.ledger.specs.declared.answers.Extent.{Extent}
-use Rattle.ledger.specs.Promises.{Begins, Resumes, Receives, Ticks, Pays, Purges, Totals, SumsUp, Marks, Saves, Shows, ShowRefuses}
+use Rattle.ledger.specs.Promises.{Begins, Resumes, Receives, Ticks, Chooses, Pays, Purges, Totals, SumsUp, Marks, Saves, Shows, ShowRefuses}
 
 -- ---- a call as it was made: what was handed in besides state and table memory, and what came back
 
@@ -42,6 +43,7 @@ pub data PublicCall : Type 0 where
   resumes : (bytes : List ℕ) (clock : ℕ) (randoms : List ℕ) → Done → (memory : List ℕ) → PublicCall
   receives : (datagram : List ℕ) (clock endpoint : ℕ) (unicast : Bool) (randoms room : List ℕ) → Answer → (memory written : List ℕ) → PublicCall
   ticks : (clock endpoint : ℕ) (randoms room : List ℕ) → Sent → (memory written : List ℕ) → PublicCall
+  chooses : (clock endpoint interval : ℕ) (randoms : List ℕ) → Done → (memory : List ℕ) → PublicCall
   pays : (clock : ℕ) → Payment → (randoms : List ℕ) → Done → (memory : List ℕ) → PublicCall
   purges : (clock : ℕ) (randoms : List ℕ) → Done → PublicCall
   looks : Look → PublicCall
@@ -60,6 +62,7 @@ Promised (PublicCall.begins own clock rs r) s m = Begins own clock rs s m r
 Promised (PublicCall.resumes bytes clock rs r m′) s m = Resumes bytes clock rs s m r m′
 Promised (PublicCall.receives datagram clock endpoint unicast rs q r m′ q′) s m = Receives datagram clock endpoint unicast rs s m q r m′ q′
 Promised (PublicCall.ticks clock endpoint rs q r m′ q′) s m = Ticks clock endpoint rs s m q r m′ q′
+Promised (PublicCall.chooses clock endpoint interval rs r m′) s m = Chooses clock endpoint interval rs s m r m′
 Promised (PublicCall.pays clock p rs r m′) s m = Pays clock p rs s m r m′
 Promised (PublicCall.purges clock rs r) s m = Purges clock rs s m r
 Promised (PublicCall.looks x) s m = Looks x s m
@@ -70,6 +73,7 @@ stateAfter (PublicCall.begins own clock rs r) s = r .state
 stateAfter (PublicCall.resumes bytes clock rs r m′) s = r .state
 stateAfter (PublicCall.receives datagram clock endpoint unicast rs q r m′ q′) s = r .state
 stateAfter (PublicCall.ticks clock endpoint rs q r m′ q′) s = r .state
+stateAfter (PublicCall.chooses clock endpoint interval rs r m′) s = r .state
 stateAfter (PublicCall.pays clock p rs r m′) s = r .state
 stateAfter (PublicCall.purges clock rs r) s = r .state
 stateAfter (PublicCall.looks x) s = s
@@ -79,6 +83,7 @@ memoryAfter (PublicCall.begins own clock rs r) m = m
 memoryAfter (PublicCall.resumes bytes clock rs r m′) m = m′
 memoryAfter (PublicCall.receives datagram clock endpoint unicast rs q r m′ q′) m = m′
 memoryAfter (PublicCall.ticks clock endpoint rs q r m′ q′) m = m′
+memoryAfter (PublicCall.chooses clock endpoint interval rs r m′) m = m′
 memoryAfter (PublicCall.pays clock p rs r m′) m = m′
 memoryAfter (PublicCall.purges clock rs r) m = m
 memoryAfter (PublicCall.looks x) m = m
@@ -97,11 +102,12 @@ numberOf (PublicCall.begins own clock rs r) s m = r .number
 numberOf (PublicCall.resumes bytes clock rs r m′) s m = r .number
 numberOf (PublicCall.receives datagram clock endpoint unicast rs q r m′ q′) s m = r .number
 numberOf (PublicCall.ticks clock endpoint rs q r m′ q′) s m = r .number
+numberOf (PublicCall.chooses clock endpoint interval rs r m′) s m = r .number
 numberOf (PublicCall.pays clock p rs r m′) s m = r .number
 numberOf (PublicCall.purges clock rs r) s m = r .number
 numberOf (PublicCall.looks x) s m = lookNumber x s m
 
--- its rows of document 01's table of numbers, in the table's order
+-- its rows of the documents' numbers, in the order that they ask for
 abbrev pub lookRefusals : Look → State → List ℕ → List Row
 lookRefusals (Look.totals clock household r) s m = late clock ∷ back clock (stateOf s m) ∷ smallTable (length m) ∷ noHousehold household ∷ []
 lookRefusals (Look.sums clock r) s m = late clock ∷ back clock (stateOf s m) ∷ smallTable (length m) ∷ []
@@ -117,6 +123,8 @@ refusalsOf (PublicCall.receives datagram clock endpoint unicast rs q r m′ q′
     late clock ∷ back clock (stateOf s m) ∷ noSuchEndpoint endpoint ∷ smallRoom (length m) (length q) mostBytes ∷ long datagram ∷ noRow datagram ∷ []
 refusalsOf (PublicCall.ticks clock endpoint rs q r m′ q′) s m =
     late clock ∷ back clock (stateOf s m) ∷ noSuchEndpoint endpoint ∷ smallRoom (length m) (length q) mostBytes ∷ []
+refusalsOf (PublicCall.chooses clock endpoint interval rs r m′) s m =
+    late clock ∷ back clock (stateOf s m) ∷ noSuchEndpoint endpoint ∷ noInterval interval ∷ smallTable (length m) ∷ noRoom endpoint interval (stateOf s m) ∷ []
 refusalsOf (PublicCall.pays clock p rs r m′) s m =
     late clock ∷ back clock (stateOf s m) ∷ smallTable (length m) ∷ noHousehold (p .household) ∷ paidAlready p (stateOf s m) ∷ full p (stateOf s m) ∷ []
 refusalsOf (PublicCall.purges clock rs r) s m = late clock ∷ back clock (stateOf s m) ∷ smallTable (length m) ∷ []
@@ -136,6 +144,7 @@ Bare (PublicCall.begins own clock rs r) = Unit {0}
 Bare (PublicCall.resumes bytes clock rs r m′) = Unit {0}
 Bare (PublicCall.receives datagram clock endpoint unicast rs q r m′ q′) = (r .length ≡ 0) × ((r .omitted ≡ 0) × ((r .dropped ≡ 0) × (q′ ≡ q)))
 Bare (PublicCall.ticks clock endpoint rs q r m′ q′) = (r .length ≡ 0) × (q′ ≡ q)
+Bare (PublicCall.chooses clock endpoint interval rs r m′) = Unit {0}
 Bare (PublicCall.pays clock p rs r m′) = Unit {0}
 Bare (PublicCall.purges clock rs r) = Unit {0}
 Bare (PublicCall.looks x) = LookBare x
@@ -146,6 +155,7 @@ startsAnew (PublicCall.begins own clock rs r) = true
 startsAnew (PublicCall.resumes bytes clock rs r m′) = true
 startsAnew (PublicCall.receives datagram clock endpoint unicast rs q r m′ q′) = false
 startsAnew (PublicCall.ticks clock endpoint rs q r m′ q′) = false
+startsAnew (PublicCall.chooses clock endpoint interval rs r m′) = false
 startsAnew (PublicCall.pays clock p rs r m′) = false
 startsAnew (PublicCall.purges clock rs r) = false
 startsAnew (PublicCall.looks x) = false
@@ -156,6 +166,7 @@ writtenBy (PublicCall.begins own clock rs r) s m = []
 writtenBy (PublicCall.resumes bytes clock rs r m′) s m = orElse (load clock bytes) [] (λ b. b .entries ++ resumed clock rs b .table)
 writtenBy (PublicCall.receives datagram clock endpoint unicast rs q r m′ q′) s m = tablesOf (stateOf s m) (callOf datagram clock endpoint unicast rs (length m) (length q))
 writtenBy (PublicCall.ticks clock endpoint rs q r m′ q′) s m = tick clock endpoint rs (length m) (length q) (stateOf s m) .state .table
+writtenBy (PublicCall.chooses clock endpoint interval rs r m′) s m = keepAlive clock endpoint interval rs (length m) (stateOf s m) .state .table
 writtenBy (PublicCall.pays clock p rs r m′) s m = pay clock p rs (length m) (stateOf s m) .state .table
 writtenBy (PublicCall.purges clock rs r) s m = []
 writtenBy (PublicCall.looks x) s m = []

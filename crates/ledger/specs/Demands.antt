@@ -21,7 +21,7 @@ use Rattle.model.specs.Totals.{totalOf, sumOf, unreadable, paymentsIn}
 use Rattle.model.specs.Handle.{Work as ModelWork, allTlvs}
 use Rattle.model.specs.Receive.{Call, contextOf, startOf}
 use Rattle.model.specs.Delivery.{heldOrHeard, Lone, Close, distinct, Holds, SameHeard, Under}
-use Rattle.model.specs.Theorems.{Chained, upFrom, Form, Exact}
+use Rattle.model.specs.Theorems.{Chained, OneAtMost, upFrom, Form, Exact}
 use Rattle.model.specs.Reach.{inReach}
 use Rattle.model.specs.Digest.{networkDigest}
 use Rattle.table.specs.declared.Entry.{Entry as Meta}
@@ -45,7 +45,7 @@ pub record PremiseHolds : Type 0 where
   pub next : (x : PublicCall) (s : State) (m : List ℕ) → AsLeft s m → Promised x s m → AsLeft (stateAfter x s) (memoryAfter x m)
   pub always : (s : State) → Blank s → (m : List ℕ) (xs : List PublicCall) → Trace s m xs → AsLeft (stateAtEnd s xs) (memoryAtEnd m xs)
 
--- "the first in the order that applies is given, and it is given otherwise never": of the rows of document 01's table that the call's arguments and the
+-- "the first in the order that applies is given, and it is given otherwise never": of the rows of the documents' numbers that the call's arguments and the
 -- state call for
 pub record NumbersExact : Type 0 where
   pub number : (x : PublicCall) (s : State) (m : List ℕ) → Promised x s m → Exact (numberOf x s m) (refusalsOf x s m)
@@ -194,13 +194,28 @@ pub record DeliveryLosesNothing : Type 0 where
 
 -- ---- what the model's theorems say, over the promises
 
+-- one tick as it was made, at a reading and on an endpoint
+pub record Ticking : Type 0 where
+  pub randoms : List ℕ
+  pub room : List ℕ
+  pub answer : Sent
+  pub memory : List ℕ
+  pub written : List ℕ
+
+abbrev pub tickAt : ℕ → ℕ → Ticking → PublicCall
+tickAt clock endpoint x = PublicCall.ticks clock endpoint (x .randoms) (x .room) (x .answer) (x .memory) (x .written)
+
+abbrev pub sentBy : Ticking → List ℕ
+sentBy x = take (x .answer .length) (x .written)
+
 pub record OverPromises : Type 0 where
-  -- after two ticks at one reading nothing is due on that endpoint: a third, accepted or not, sends nothing and changes nothing
-  pub ticks : (clock endpoint : ℕ) (s : State) (m : List ℕ) → AsLeft s m
-      → (rs q : List ℕ) (a : Sent) (m₁ q₁ : List ℕ) → Ticks clock endpoint rs s m q a m₁ q₁ → a .number ≡ 0
-      → (rs₂ p : List ℕ) (b : Sent) (m₂ p₂ : List ℕ) → Ticks clock endpoint rs₂ (a .state) m₁ p b m₂ p₂ → b .number ≡ 0
-      → (rs₃ o : List ℕ) (c : Sent) (m₃ o₃ : List ℕ) → Ticks clock endpoint rs₃ (b .state) m₂ o c m₃ o₃
-      → (c .length ≡ 0) × (o₃ ≡ o) × (m₃ ≡ m₂) × (stateOf (c .state) m₃ ≡ stateOf (b .state) m₂)
+  -- after three ticks at one reading nothing is due on that endpoint: a fourth, accepted or not, sends nothing and changes nothing
+  pub ticks : (clock endpoint : ℕ) (s : State) (m : List ℕ) (a b c d : Ticking) → AsLeft s m → Trace s m (map (tickAt clock endpoint) (a ∷ b ∷ c ∷ d ∷ []))
+      → a .answer .number ≡ 0 → b .answer .number ≡ 0 → c .answer .number ≡ 0
+      → (d .answer .length ≡ 0) × (d .written ≡ d .room) × (d .memory ≡ c .memory) × (stateOf (d .answer .state) (d .memory) ≡ stateOf (c .answer .state) (c .memory))
+  -- at most one of the three sends
+  pub once : (clock endpoint : ℕ) (s : State) (m : List ℕ) (a b c : Ticking) → AsLeft s m → Trace s m (map (tickAt clock endpoint) (a ∷ b ∷ c ∷ []))
+      → a .answer .number ≡ 0 → b .answer .number ≡ 0 → c .answer .number ≡ 0 → OneAtMost (sentBy a) (sentBy b) (sentBy c)
   -- the totals of all households add up to the sum, and with each comes the same count
   pub households : (clock : ℕ) (s : State) (m : List ℕ) (r : Summed) → SumsUp clock s m r → r .number ≡ 0
       → (t : ℕ → Summed) → ((h : ℕ) → 1 ≤ h → h ≤ mostHousehold → Totals clock h s m (t h))

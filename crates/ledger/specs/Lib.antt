@@ -5,3 +5,4 @@ pub mod Demands
 pub mod Traffic
 pub mod Returning
 pub mod OwnPayments
+pub mod Quiet

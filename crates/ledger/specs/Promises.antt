@@ -11,6 +11,7 @@ use Rattle.model.specs.Table.{Entry}
 use Rattle.model.specs.Begin.{Done as ModelDone, blank, begin}
 use Rattle.model.specs.Tick.{Sent as ModelSent, tick}
 use Rattle.model.specs.Receive.{Call, Answer as ModelAnswer, receive}
+use Rattle.model.specs.KeepAlive.{keepAlive}
 use Rattle.model.specs.Pay.{pay, purge}
 use Rattle.model.specs.Totals.{Summed as ModelSummed, total, sum}
 use Rattle.model.specs.Show.{Marks as ModelMarks, marks, shown, refusalShow}
@@ -40,13 +41,17 @@ pub record AsLeft (s : State) (m : List ℕ) : Type 0 where
 
 -- ---- calls that change state
 
--- begin, resume, pay, purge: answer and state; what is written in the table memory is said with each
+-- begin, resume, keep_alive, pay, purge: answer and state; what is written in the table memory is said with each
 pub record Changes (d : ModelDone) (s : State) (m : List ℕ) (r : Done) (m′ : List ℕ) : Type 0 where
   pub is : record { number = r .number; state = stateOf (r .state) m′ } ≡ d
   pub left : AsLeft (r .state) m′
   pub size : length m′ ≡ length m
   pub beyond : drop tableBytes m′ ≡ drop tableBytes m
   pub refused : ¬ (r .number ≡ 0) → (r .state ≡ s) × (m′ ≡ m)
+
+-- keep_alive, pay: in the table memory the data of the table's entries are written, and nothing else
+abbrev pub Publishes : ModelDone → State → List ℕ → Done → List ℕ → Type 0
+Publishes d s m r m′ = Changes d s m r m′ × (r .number ≡ 0 → Wrote (s .table) m (d .state .table) (r .state .table) m′)
 
 -- tick: the first bytes of the room are what is sent, the others stay; in the table memory the data of the table's entries are written, and nothing else
 pub record Sends (d : ModelSent) (s : State) (m q : List ℕ) (r : Sent) (m′ q′ : List ℕ) : Type 0 where
@@ -112,7 +117,8 @@ Blank r = (m : List ℕ) → AsLeft r m × (stateOf r m ≡ blank)
 abbrev pub Begins : ℕ → ℕ → List ℕ → State → List ℕ → Done → Type 0
 Begins own clock randoms s m r = Changes (begin own clock randoms (length m) (stateOf s m)) s m r m
 
--- into a table that is new the snapshot's entries are written, and then those of the table that they become: our own data without the Peer TLVs
+-- into a table that is new the snapshot's entries are written, and then those of the table that they become: our own data without the Peer and
+-- Keep-Alive TLVs
 abbrev pub Resumes : List ℕ → ℕ → List ℕ → State → List ℕ → Done → List ℕ → Type 0
 Resumes bytes clock randoms s m r m′ =
     Changes (resume clock bytes randoms (length m) (stateOf s m)) s m r m′
@@ -127,10 +133,11 @@ Receives datagram clock endpoint unicast randoms s m q r m′ q′ =
 abbrev pub Ticks : ℕ → ℕ → List ℕ → State → List ℕ → List ℕ → Sent → List ℕ → List ℕ → Type 0
 Ticks clock endpoint randoms s m q r m′ q′ = Sends (tick clock endpoint randoms (length m) (length q) (stateOf s m)) s m q r m′ q′
 
+abbrev pub Chooses : ℕ → ℕ → ℕ → List ℕ → State → List ℕ → Done → List ℕ → Type 0
+Chooses clock endpoint interval randoms s m r m′ = Publishes (keepAlive clock endpoint interval randoms (length m) (stateOf s m)) s m r m′
+
 abbrev pub Pays : ℕ → Payment → List ℕ → State → List ℕ → Done → List ℕ → Type 0
-Pays clock p randoms s m r m′ =
-    Changes (pay clock p randoms (length m) (stateOf s m)) s m r m′
-    × (r .number ≡ 0 → Wrote (s .table) m (pay clock p randoms (length m) (stateOf s m) .state .table) (r .state .table) m′)
+Pays clock p randoms s m r m′ = Publishes (pay clock p randoms (length m) (stateOf s m)) s m r m′
 
 -- nothing is written in the table memory, and the nodes that stay keep their slots
 abbrev pub Purges : ℕ → List ℕ → State → List ℕ → Done → Type 0

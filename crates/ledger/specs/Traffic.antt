@@ -1,4 +1,4 @@
--- Demand 3 over the traffic that there is: lists of public calls, datagrams with any TLVs, ticks and payments among them. Assumes nothing.
+-- Demand 3 over the traffic that there is: lists of public calls, datagrams with any TLVs, ticks, choices and payments among them. Assumes nothing.
 use mathlib.Core.Path.{_≡_}
 use mathlib.Core.Bool.{Bool, true, false}
 use mathlib.Core.List.{List, [], _∷_, _++_, map}
@@ -22,6 +22,7 @@ continues (PublicCall.begins own clock rs r) = false
 continues (PublicCall.resumes bytes clock rs r m′) = false
 continues (PublicCall.receives datagram clock endpoint unicast rs q r m′ q′) = true
 continues (PublicCall.ticks clock endpoint rs q r m′ q′) = true
+continues (PublicCall.chooses clock endpoint interval rs r m′) = true
 continues (PublicCall.pays clock p rs r m′) = true
 continues (PublicCall.purges clock rs r) = false
 continues (PublicCall.looks x) = true
@@ -32,6 +33,7 @@ turnOf n (PublicCall.begins own clock rs r) = []
 turnOf n (PublicCall.resumes bytes clock rs r m′) = []
 turnOf n (PublicCall.receives datagram clock endpoint unicast rs q r m′ q′) = Turn.receives (callOf datagram clock endpoint unicast rs n (length q)) ∷ []
 turnOf n (PublicCall.ticks clock endpoint rs q r m′ q′) = Turn.ticks clock endpoint rs n (length q) ∷ []
+turnOf n (PublicCall.chooses clock endpoint interval rs r m′) = Turn.chooses clock endpoint interval rs n ∷ []
 turnOf n (PublicCall.pays clock p rs r m′) = Turn.pays clock p rs n ∷ []
 turnOf n (PublicCall.purges clock rs r) = []
 turnOf n (PublicCall.looks x) = []

@@ -1,4 +1,4 @@
-// What calls that change nothing answer. A number is one of document 01's, or 0 where the call is accepted; with another number all else is 0.
+// What calls that change nothing answer. A number is one of the documents', or 0 where the call is accepted; with another number all else is 0.
 use model::figures::MOST_NODES;
 
 // What total and sum answer.

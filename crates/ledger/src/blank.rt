@@ -3,6 +3,7 @@ use model::figures::LEAST_INTERVAL;
 use model::figures::MOST_ENDPOINTS;
 use model::figures::MOST_NODES;
 use model::figures::MOST_PEERS;
+use model::figures::USUAL_INTERVAL;
 use node::Endpoint;
 use node::State;
 use node::peers::Peer;
@@ -84,6 +85,8 @@ pub extern "C" fn pingvratha_blank() -> State
             spent: false,
         },
         next: 0,
+        keep: USUAL_INTERVAL,
+        quiet: 0,
     };
     State {
         own: 0,

@@ -7,7 +7,7 @@ use node::answers::Answer;
 use node::answers::Done;
 use node::answers::Sent;
 ghost use Rattle.accounts.specs.Tallied.{paymentOf};
-ghost use Rattle.ledger.specs.Promises.{AsLeft, Begins, Resumes, Receives, Ticks, Pays, Purges};
+ghost use Rattle.ledger.specs.Promises.{AsLeft, Begins, Resumes, Receives, Ticks, Chooses, Pays, Purges};
 
 // Begins with our node alone: empty data, sequence number 0, no peers. Also over a running node and at an earlier reading; all that was held is gone.
 #[no_mangle]
@@ -32,6 +32,7 @@ pub extern "C" fn pingvratha_begin(
 }
 
 // Goes on from a snapshot, at whatever reading. Our peers are unknown at first, so that only our own node is reachable, and our data are published anew.
+// Keep-alive intervals are USUAL_INTERVAL again.
 #[no_mangle]
 pub extern "C" fn pingvratha_resume(
     state: State,
@@ -107,7 +108,7 @@ pub extern "C" fn pingvratha_receive(
 }
 
 // Does what is due on the endpoint: removes peers that fell silent, publishes our data anew before it is too old, and writes what is to be sent to the front
-// of the room; length 0 means that there is nothing. At one reading a second tick may still have something to do, a third never.
+// of the room; length 0 means that there is nothing. At one reading a second and a third tick may still have something to do, a fourth never.
 #[no_mangle]
 pub extern "C" fn pingvratha_tick(
     state: State,
@@ -129,6 +130,38 @@ pub extern "C" fn pingvratha_tick(
         };
     }
     upkeep::tick::tick(state, memory, room, clock, endpoint, *randoms)
+}
+
+// Chooses the endpoint's keep-alive interval in milliseconds: when ticks of the endpoint have sent nothing for so long, and a random delay of up to MOST_DELAY, one
+// sends. Our data tell it to the peers, who remove us when they have not heard us for 2.1 times as long; unless it is USUAL_INTERVAL, as at first, it takes 12 bytes.
+// begin and resume set that one again. With ten ticks a second choose 5000 or more: with a shorter one peers may remove us though nobody is gone.
+#[no_mangle]
+pub extern "C" fn pingvratha_keep_alive(
+    state: State,
+    memory: &mut [u8],
+    clock: u64,
+    endpoint: u32,
+    interval: u32,
+    randoms: &[u32; MOST_ENDPOINTS],
+) -> Done
+    requires { ⌜ AsLeft state (now memory) ⌝ }
+    ensures { λ r. ⌜ Chooses clock endpoint interval (now (randoms .entry)) state (now (memory .entry)) r (now (memory .exit)) ⌝ }
+{
+    let early = refusal::of_interval(state.last, clock, endpoint, interval, memory.len());
+    if early != 0 {
+        return Done {
+            number: early,
+            state,
+        };
+    }
+    let number = upkeep::choice::refusal(state, memory, clock, endpoint, interval);
+    if number != 0 {
+        return Done { number, state };
+    }
+    Done {
+        number: 0,
+        state: upkeep::choice::choose(state, memory, clock, endpoint, interval, *randoms),
+    }
 }
 
 // Puts a payment, in cents, into our data, where it takes 8, 12 or 16 bytes, and publishes it. Save before anything is sent. Only the same household, receipt

@@ -10,8 +10,8 @@
 //   one that it had;
 // - gives one random number for each endpoint with every call that changes state, new ones each time;
 // - gives the clock in milliseconds, never lower than before;
-// - ticks every endpoint, 1 to MOST_ENDPOINTS, again and again, some ten times a second: the shortest interval between two sendings is LEAST_INTERVAL. What a
-//   tick writes goes out by multicast on that endpoint;
+// - ticks every endpoint, 1 to MOST_ENDPOINTS, again and again, some ten times a second: Trickle's shortest interval is LEAST_INTERVAL, and a keep-alive that is
+//   due may have to wait for later ticks. What a tick writes goes out by multicast on that endpoint;
 // - hands each datagram to receive, with the endpoint that it came on and whether it came by unicast. What receive writes goes back by unicast to where the
 //   datagram came from, on the same endpoint;
 // - saves after each accepted payment before anything is sent, and keeps that snapshot over a loss of power: whole or not at all, and with a checksum, for a

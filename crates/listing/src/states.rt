@@ -80,9 +80,14 @@ fn endpoint(number: usize, e: Endpoint) {
         t.count as u64,
         bit(t.spent),
         e.next,
+        e.keep as u64,
+        e.quiet,
     ];
     labelled_size(b"endpoint ", number);
-    labelled_each(b"start= point= interval= count= spent= next=", &numbers);
+    labelled_each(
+        b"start= point= interval= count= spent= next= keep= quiet=",
+        &numbers,
+    );
     end();
 }
 

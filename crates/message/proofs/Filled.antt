@@ -9,6 +9,7 @@ use Rattle.base.specs.Memory.{written}
 use Rattle.base.proofs.Written.{written-three, written-more}
 use Rattle.wire.specs.Row.{encode}
 use Rattle.model.specs.State.{Peer, peerTlv}
+use Rattle.model.specs.KeepAlive.{keepAliveTlv}
 use Rattle.model.specs.Messages.{endpointTlv, networkTlv, requestNetworkTlv, requestNodeTlv}
 
 -- our Node Endpoint TLV, at a place
@@ -45,6 +46,13 @@ pub peer-filled : (d1 d2 d3 d4 d5 : List ℕ) (p : Peer)
     → d5 ≡ peerTlv p
 unfolding encode peerTlv
 peer-filled d1 d2 d3 d4 d5 p e1 e2 e3 e4 e5 = e5 ∙ rw (e4, e3, e2, e1)
+
+pub alive-filled : (d1 d2 d3 d4 : List ℕ) (endpoint interval : ℕ)
+    → d1 ≡ written (noughts 12) 0 (big16 9) → d2 ≡ written d1 2 (big16 8)
+    → d3 ≡ written d2 4 (big32 endpoint) → d4 ≡ written d3 8 (big32 interval)
+    → d4 ≡ keepAliveTlv endpoint interval
+unfolding encode keepAliveTlv
+alive-filled d1 d2 d3 d4 endpoint interval e1 e2 e3 e4 = e4 ∙ rw (e3, e2, e1)
 
 -- the head of a Node State TLV: its last piece ends with the buffer
 pub front-filled : (d1 d2 d3 d4 d5 d6 hash : List ℕ) (node seq age len : ℕ) → length hash ≡ 16

@@ -2,6 +2,7 @@
 use base::big_endian::put_u16;
 use base::big_endian::put_u32;
 use base::memory::store;
+use model::figures::KEEP_ALIVE_BYTES;
 use model::figures::PEER_BYTES;
 ghost use mathlib.Core.Path.{_≡_};
 ghost use mathlib.Core.List.{_++_};
@@ -11,6 +12,7 @@ ghost use Rattle.base.specs.Bytes.{big16, big32};
 ghost use Rattle.base.specs.Memory.{written};
 ghost use Rattle.model.specs.Figures.{dataLimit};
 ghost use Rattle.model.specs.State.{peerTlv};
+ghost use Rattle.model.specs.KeepAlive.{keepAliveTlv};
 ghost use Rattle.model.specs.Messages.{endpointTlv, networkTlv, requestNetworkTlv, requestNodeTlv};
 
 // Our Node Endpoint TLV to place `at`.
@@ -64,6 +66,18 @@ pub fn peer_tlv(node: u32, theirs: u32, ours: u32) -> [u8; PEER_BYTES]
     put_u32(&mut d, 4, node);
     put_u32(&mut d, 8, theirs);
     put_u32(&mut d, 12, ours);
+    d
+}
+
+// Our Keep-Alive TLV of an endpoint.
+pub fn keep_alive_tlv(endpoint: u32, interval: u32) -> [u8; KEEP_ALIVE_BYTES]
+    ensures { λ r. ⌜ r ≡ keepAliveTlv endpoint interval ⌝ }
+{
+    let mut d = [0u8; KEEP_ALIVE_BYTES];
+    put_u16(&mut d, 0, 9);
+    put_u16(&mut d, 2, 8);
+    put_u32(&mut d, 4, endpoint);
+    put_u32(&mut d, 8, interval);
     d
 }
 

@@ -24,13 +24,14 @@ use Rattle.model.specs.Figures.{mostNodes, dataLimit, refreshAge}
 use Rattle.model.specs.Sequence.{older, advance}
 use Rattle.model.specs.Table.{Statement, Entry, idOf, entryOf, ageAt, look, put, statements, anew}
 use Rattle.model.specs.Reach.{inReach}
-use Rattle.model.specs.State.{State, withPeers, ownEntry, ownData, ownSeq, publishAs, publish, withTlv, settle}
+use Rattle.model.specs.State.{State, withPeers, ownEntry, ownData, ownSeq, publishAs, publish, withTlv, settle, endpointAt}
 use Rattle.model.specs.Messages.{requestNetworkTlv, networkTlv, shortState, wholeState}
 use Rattle.model.specs.Decide.{Received, Decision, receivedOf, taken, withData, withoutData, wantedNew, wantedHeld, differs, decide, after}
 use Rattle.model.specs.Handle.{Context, Sender, Work, withSender, fits, reply, replies, mayAsk, askNetwork, touch, digestNow, reachedNow, onRequestNetwork, onRequestNode, roomForPeer, addPeer, greet, knows, onStranger, onEndpoint, onEqual, onNetwork, onOwnState, onState, onTlv, oneTlv}
 use Rattle.model.specs.Receive.{aboutOther}
 use Rattle.model.specs.Tick.{Sent, goes, someOf, withoutPeers, dropSilent, ticked, refusalTick, tick}
 use Rattle.model.specs.Begin.{Done}
+use Rattle.model.specs.KeepAlive.{withKeepAlive, withChoice, chosen, refusalKeepAlive, keepAlive}
 use Rattle.model.specs.Pay.{paid, refusalPay, pay}
 use Rattle.model.specs.Delivery.{saying}
 use Rattle.model.specs.Traffic.{saidIn}
@@ -283,7 +284,7 @@ module _ (c : Context) where
       either (c .unicast) (next a (touch-seen c (onTlv c (typeOf t) (valueOf t) w))) a in
       b .state
 
--- ---- ticks and payments
+-- ---- ticks, choices and payments
 
 module _ (clock : ℕ) (s : State) where
   silent-aside : (i : ℕ) → Aside s (dropSilent clock i s)
@@ -302,6 +303,22 @@ module _ (clock : ℕ) (s : State) where
   unfolding tick
   tick-aside i rs table room =
       by-cond (λ (a : Sent). Aside s (a .state)) (eqb (refusalTick clock i table room s) 0) (ticked clock i rs s) _ (λ b. ticked-aside i rs) (λ b. still s s refl refl)
+
+  with-choice-aside : (i n : ℕ) → Aside s (withChoice clock i n s)
+  unfolding withChoice
+  with-choice-aside i n =
+      by-cond (Aside s) (eqb (endpointAt i s .keep) n) s _ (λ b. still s s refl refl)
+      (λ b. onward s (publish clock (withKeepAlive i n (ownData s)) s) _ (published clock (advance (ownSeq s) 1) (withKeepAlive i n (ownData s)) s) refl refl)
+
+  chosen-aside : (i n : ℕ) (rs : List ℕ) → Aside s (chosen clock i n rs s)
+  unfolding chosen settle
+  chosen-aside i n rs = onward s (withChoice clock i n s) _ (with-choice-aside i n) refl refl
+
+  pub choice-aside : (i n : ℕ) (rs : List ℕ) (table : ℕ) → Aside s (keepAlive clock i n rs table s .state)
+  unfolding keepAlive
+  choice-aside i n rs table =
+      by-cond (λ (a : Done). Aside s (a .state)) (eqb (refusalKeepAlive clock i n table s) 0) (record { number = 0; state = chosen clock i n rs s }) _ (λ b. chosen-aside i n rs)
+      (λ b. still s s refl refl)
 
   paid-aside : (p : Payment) (rs : List ℕ) → Aside s (paid clock p rs s)
   unfolding paid settle

@@ -7,10 +7,10 @@ use mathlib.Core.Option.{none, some}
 use Prim.Native.Nat.{ℕ, pred, _+_, _*_, _≤_, _<_, min}
 use lib.ListN.{length, take, drop, getD}
 use lib.Dec.{ltb, leb}
-use borrow.Author.Tests.{eq-eqb, ne-eqb, le-leb, lt-leb, le-ltb, lt-ltb}
+use borrow.Author.Tests.{eq-eqb, ne-eqb, leb-false, le-leb, lt-leb, le-ltb, lt-ltb}
 use Rattle.base.specs.Lists.{keep}
 use Rattle.base.specs.Bytes.{u32At, big32, same}
-use Rattle.base.proofs.Tests.{by-test}
+use Rattle.base.proofs.Tests.{by-test, and-left, and-right, no-not}
 use Rattle.wire.specs.Row.{typeOf, valueOf, tlvs}
 use Rattle.wire.proofs.Encoded.{encode-length}
 use Rattle.model.specs.Figures.{leastInterval, greatestInterval, redundancy, refreshAge, reclaimStep}
@@ -18,13 +18,13 @@ use Rattle.model.specs.Sequence.{advance}
 use Rattle.model.specs.Table.{Entry, look, put, ageAt}
 use Rattle.model.specs.Reach.{inReach}
 use Rattle.model.specs.Digest.{networkDigest}
-use Rattle.model.specs.Trickle.{Trickle, fresh, spend, reset, pointDue, event}
+use Rattle.model.specs.Trickle.{Trickle, fresh, spend, reset, pointDue, intervalOver, isIdle, event}
 use Rattle.model.specs.State.{State, Peer, Endpoint, withTable, withPeers, withTrickle, endpointAt, ownEntry, ownData, publishAs, publish, resetAll, settle}
 use Rattle.model.specs.Messages.{requestNetworkTlv, requestNodeTlv, endpointTlv, networkTlv, shortState, wholeState}
 use Rattle.model.specs.Decide.{Received, Decision, receivedOf, differs, decide, after}
 use Rattle.model.specs.Handle.{Context, Sender, Work, withState, withSender, withOut, omitOne, dropOne, piece, fits, reply, replies, mayAsk, hasAsked, askNetwork, touchBy, touch, digestNow, reachedNow, onRequestNetwork, onRequestNode, newPeer, roomForPeer, addPeer, greet, knows, onStranger, onEndpoint, countEqual, onEqual, onNetwork, onOwnState, carryOut, onState, onTlv, oneTlv, allTlvs, eachTable}
 use Rattle.model.specs.Receive.{Call, contextOf, startOf, handled, refusalReceive, answered, receive}
-use Rattle.model.specs.Tick.{goes, withoutPeers, someOf, dropSilent, withEvent, ticked, refusalTick, tick}
+use Rattle.model.specs.Tick.{goes, withoutPeers, someOf, dropSilent, endpointEvent, withEvent, ticked, refusalTick, tick}
 
 cond-same : {A : Type 0} (b : Bool) (x : A) → cond b x x ≡ x
 cond-same true x = refl
@@ -317,6 +317,25 @@ module _ (clock random : ℕ) (t : Trickle) where
   unfolding reset
   reset-least h = rw (le-ltb leastInterval (t .interval) h)
 
+-- ---- an endpoint's event: Trickle's, a keep-alive, or none
+
+module _ (clock random : ℕ) (e : Endpoint) where
+  pub event-busy : isIdle clock (e .trickle) ≡ false → endpointEvent clock random e ≡ event clock random (e .trickle)
+  unfolding endpointEvent
+  event-busy h = rw h
+
+  pub event-alive : isIdle clock (e .trickle) ≡ true → e .quiet + e .keep ≤ clock
+      → endpointEvent clock random e ≡ record { sends = true; next = fresh clock (e .trickle .interval) random }
+  unfolding endpointEvent
+  event-alive h l = rw (h, le-leb (e .quiet + e .keep) clock l)
+
+  pub event-rests : isIdle clock (e .trickle) ≡ true → clock < e .quiet + e .keep → endpointEvent clock random e ≡ record { sends = false; next = e .trickle }
+  unfolding endpointEvent
+  event-rests h l =
+      rw (h, lt-leb (e .quiet + e .keep) clock l)
+      (event-none clock random (e .trickle) (no-not (pointDue clock (e .trickle)) (and-left _ _ h))
+      (leb-false (e .trickle .start + e .trickle .interval) clock (no-not (intervalOver clock (e .trickle)) (and-right (not (pointDue clock (e .trickle))) _ h))))
+
 -- ---- settling: the digest is as before, or every endpoint is reset with its random number
 
 pub reset-all-next : (clock r : ℕ) (rs : List ℕ) (e : Endpoint) (es : List Endpoint)
@@ -364,7 +383,8 @@ module _ (clock i : ℕ) (s : State) where
   silent-endpoints = by-test (someOf (gone clock i s) || leb refreshAge (ageAt clock (ownEntry s))) (λ e. rw e) (λ e. rw e)
 
   -- a tick: silent peers go, the digest is compared, then at most one event
-  pub ticked-is : (rs : List ℕ) → ticked clock i rs s ≡ withEvent i (settle clock rs (dropSilent clock i s)) (event clock (getD rs (pred i) 0) (endpointAt i (settle clock rs (dropSilent clock i s)) .trickle))
+  pub ticked-is : (rs : List ℕ) → ticked clock i rs s
+      ≡ withEvent clock (getD rs (pred i) 0) i (settle clock rs (dropSilent clock i s)) (endpointEvent clock (getD rs (pred i) 0) (endpointAt i (settle clock rs (dropSilent clock i s))))
   unfolding ticked
   ticked-is rs = refl
 

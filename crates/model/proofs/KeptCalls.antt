@@ -1,7 +1,7 @@
 -- Beginning, resuming, paying and purging keep the invariant. Assumes nothing.
 use mathlib.Core.Path.{_≡_, refl, sym, ap, _∙_, subst}
 use mathlib.Core.Bool.{Bool, true, false}
-use mathlib.Core.List.{List, [], _∷_, _++_}
+use mathlib.Core.List.{List, [], _∷_, _++_, map}
 use mathlib.Core.Option.{Option, some}
 use mathlib.Core.Logic.{inl}
 use Prim.Native.Nat.{ℕ, _+_, _≤_, _<_}
@@ -20,34 +20,44 @@ use Rattle.model.specs.Figures.{dataLimit, publishLimit, lastReading, le
 use Rattle.model.specs.Sequence.{circle, advance}
 use Rattle.model.specs.Table.{Entry, idOf, entryOf, underAge, look, put, anew}
 use Rattle.model.specs.Reach.{Vertex, vertices, isNode, level0, levels, met, marked, inReach, reached}
-use Rattle.model.specs.State.{State, withTable, noEntry, ownEntry, ownSeq, ownData, publishAs, publish, withTlv, settle}
+use Rattle.model.specs.State.{State, withTable, noEntry, ownEntry, ownSeq, ownData, publishAs, publish, peerTlv, withTlv, settle}
 use Rattle.model.specs.Refusals.{Row, late, back, smallTable, noHousehold, paidAlready, full}
+use Rattle.model.specs.KeepAlive.{keepAlives}
 use Rattle.model.specs.Begin.{Done, freshEndpoints, started, begun, blank, refusalBegin, begin}
 use Rattle.model.specs.Snapshot.{Snapshot, load, withoutLinks, republished, resumed, noSnapshot, refusalResume, resume}
 use Rattle.model.specs.Pay.{paid, refusalPay, pay, purged, refusalPurge, purge}
-use Rattle.model.specs.Invariant.{EntryFits, EndpointFits, Valid, TableFits, Linked, Midway}
+use Rattle.model.specs.Invariant.{EntryFits, EndpointFits, Valid, TableFits, Only, Linked, Chosen, intervalsOf, Midway}
 use Rattle.model.proofs.Snapshots.{load-fits}
 use Rattle.model.specs.Invariant.{SnapshotFits}
 use Rattle.model.proofs.KeptParts.{none-applies, not-late, not-back, found, valid-midway, midway-held, midway-own, look-put, put-fits, publish-kept, advance-fits, fresh-fits, settle-valid}
 use Rattle.base.proofs.Options.{by-cond, by-or-else}
-use Rattle.model.proofs.KeptData.{acceptable, none-good, none-linked, empty-linked, paid-good, paid-linked}
+use Rattle.model.proofs.KeptData.{acceptable, none-good, none-linked, none-chosen, empty-only, paid-good, paid-only}
 
 -- ---- a state that is started: no peers, so no Peer TLV of ours
 
 fresh-all : (clock : ℕ) (rs : List ℕ) → All (EndpointFits clock) (freshEndpoints clock rs)
 fresh-all clock [] = tt
-fresh-all clock (r ∷ rs) = (record { trickle = fresh-fits clock leastInterval r (inl refl); next = omega arith }, fresh-all clock rs)
+fresh-all clock (r ∷ rs) =
+    (record { trickle = fresh-fits clock leastInterval r (inl refl); next = omega arith; least = omega arith; most = omega arith; quiet = omega arith }, fresh-all clock rs)
+
+-- every interval is the usual one, so there is no Keep-Alive TLV of ours
+fresh-choices : (clock i : ℕ) (rs : List ℕ) → keepAlives i (intervalsOf (freshEndpoints clock rs)) ≡ []
+unfolding keepAlives
+fresh-choices clock i [] = refl
+fresh-choices clock i (r ∷ rs) = fresh-choices clock (i + 1) rs
 
 module _ (own clock : ℕ) (rs : List ℕ) (t : List Entry) (e : Entry) where
-  started-valid : own < circle → clock ≤ lastReading → length rs ≡ 4 → TableFits own clock t → look own t ≡ some e → Linked (e .says .nodeData) [] → Valid (started own clock rs t)
+  started-valid : own < circle → clock ≤ lastReading → length rs ≡ 4 → TableFits own clock t → look own t ≡ some e → Only 8 (e .says .nodeData) []
+      → Only 9 (e .says .nodeData) [] → Valid (started own clock rs t)
   unfolding started ownEntry
-  started-valid o l r h q k =
+  started-valid o l r h q k c =
       record {
         inside = record {
           own = o;
           table = h;
           peers = record { few = omega arith; once = tt; all = tt };
           links = subst (λ (x : Option Entry). Linked (orElse x noEntry (λ f. f) .says .nodeData) []) (sym q) k;
+          choices = rw (fresh-choices clock 1 rs) (subst (λ (x : Option Entry). Only 9 (orElse x noEntry (λ f. f) .says .nodeData) []) (sym q) c);
           endpoints = record { four = length-map rs _ ∙ r; all = fresh-all clock rs };
         };
         last = l;
@@ -71,7 +81,7 @@ begun-valid own clock rs o l r =
       nodes = omega arith;
       entries = (record { node = o; seq = omega arith; fine = empty-good; age = omega arith; since = omega arith }, tt);
     })
-    q empty-linked
+    q (empty-only 8) (empty-only 9)
 
 pub blank-valid : Valid blank
 unfolding blank
@@ -113,7 +123,7 @@ module _ (clock : ℕ) (rs : List ℕ) (b : Snapshot) (f : SnapshotFits clock b)
   pub resumed-valid : clock ≤ lastReading → length rs ≡ 4 → Valid (resumed clock rs b)
   unfolding resumed republished
   resumed-valid l r =
-      started-valid (b .own) clock rs (put again (b .entries)) again (f .own) l r again-fits (look-put again (b .entries)) (none-linked (before .says .nodeData) before-good)
+      started-valid (b .own) clock rs (put again (b .entries)) again (f .own) l r again-fits (look-put again (b .entries)) (none-linked (before .says .nodeData)) (none-chosen (before .says .nodeData))
 
 module _ (clock : ℕ) (bytes rs : List ℕ) (table : ℕ) (s : State) where
   abbrev rowsResume : List Row
@@ -135,7 +145,8 @@ module _ (clock : ℕ) (p : Payment) (s : State) where
   published-midway m n room =
       let g : good dataLimit (ownData s) ≡ true = midway-own s m .fine in
       publish-kept (advance (ownSeq s) 1) (withTlv (paymentTlv p) (ownData s)) (s .peers) s m (advance-fits (ownSeq s) 1)
-      (paid-good p (ownData s) (s .peers) (m .links) g n (acceptable room)) (m .peers) (paid-linked p (ownData s) (s .peers) (m .links) g n (acceptable room))
+      (paid-good p (ownData s) g n (acceptable room)) (m .peers) (paid-only p (ownData s) g n (acceptable room) 8 (map peerTlv (s .peers)) (omega arith) (m .links)) (s .endpoints) (m .endpoints)
+      (paid-only p (ownData s) g n (acceptable room) 9 (keepAlives 1 (intervalsOf (s .endpoints))) (omega arith) (m .choices))
 
 module _ (clock : ℕ) (p : Payment) (rs : List ℕ) (s : State) where
   pub paid-valid : Midway clock s → among (paymentTlv p) (tlvs (ownData s)) ≡ false → length (ownData s) + length (paymentTlv p) ≤ publishLimit → clock ≤ lastReading → Valid (paid clock p rs s)
@@ -204,6 +215,7 @@ module _ (clock : ℕ) (s : State) (m : Midway clock s) where
         };
         peers = m .peers;
         links = subst (λ (x : Option Entry). Linked (orElse x noEntry (λ f. f) .says .nodeData) (s .peers)) (sym reached-held) (m .links);
+        choices = subst (λ (x : Option Entry). Chosen (orElse x noEntry (λ f. f) .says .nodeData) (s .endpoints)) (sym reached-held) (m .choices);
         endpoints = m .endpoints;
       }
 

@@ -8,22 +8,23 @@ use native.Mathlib.Omega.{arith}
 use lib.ListN.{length, length-append}
 use lib.Dec.{eqb}
 use borrow.Author.Tests.{eqb-true, eq-eqb}
-use Rattle.base.specs.Lists.{any, keep, In}
+use Rattle.base.specs.Lists.{any, keep, joinAll, In}
 use Rattle.base.specs.Bytes.{u32At, big32, same}
 use Rattle.base.proofs.Tests.{no-way, by-test, and-left, and-right, no-not, not-no, or-left, or-right}
 use Rattle.base.proofs.Lists.{in-append, in-left, in-right, in-keep, keep-in, any-in, in-any, in-map, map-in, any-append, any-keep, not-any, all-keep, all-append, keep-few}
-use Rattle.wire.specs.Row.{typeOf, valueOf, tlvs}
-use Rattle.wire.specs.Order.{good, place, among}
+use Rattle.wire.specs.Row.{isRow, typeOf, valueOf, tlvs}
+use Rattle.wire.specs.Order.{before, good, place, among}
 use Rattle.wire.specs.Payment.{Payment, paymentTlv}
 use Rattle.wire.proofs.Ordering.{same-is, same-self}
 use Rattle.wire.proofs.Rows.{tlvs-end}
-use Rattle.wire.proofs.Good.{Whole, place-good, place-tlvs, keep-good, keep-tlvs, place-in, in-place, among-in}
+use Rattle.wire.proofs.Good.{Whole, tlvs-joined, place-length, place-good, place-tlvs, keep-good, keep-tlvs, place-in, in-place, among-in}
 use Rattle.wire.proofs.Encoded.{encode-whole, encode-type, encode-value, encode-length, payment-whole, payment-type}
 use Rattle.model.specs.Figures.{dataLimit, publishLimit, mostPeers, peerBytes}
-use Rattle.model.specs.State.{Peer, peerTlv, withTlv, isPeer}
+use Rattle.model.specs.State.{Peer, Endpoint, peerTlv, withTlv, isPeer}
 use Rattle.model.specs.Tick.{withoutPeers}
-use Rattle.model.specs.Snapshot.{withoutLinks}
-use Rattle.model.specs.Invariant.{PeerFits, Once, PeersFit, Linked}
+use Rattle.model.specs.KeepAlive.{keepAlives}
+use Rattle.model.specs.Snapshot.{ofLinks, withoutLinks}
+use Rattle.model.specs.Invariant.{PeerFits, Once, PeersFit, Only, Linked, intervalsOf, Chosen}
 
 -- ---- a Peer TLV
 
@@ -136,6 +137,20 @@ module _ {own clock : ℕ} (ps : List Peer) (h : PeersFit own clock ps) where
 pub acceptable : {n : ℕ} → n ≤ publishLimit → n ≤ dataLimit
 acceptable p = omega (arith, p)
 
+pub tlv-length : (t d : List ℕ) → isRow d ≡ true → length (withTlv t d) ≡ length d + length t
+unfolding withTlv
+tlv-length t d r = omega (arith, place-length t (tlvs d), ap length (tlvs-joined d r))
+
+-- no bytes put in are none
+none-placed : (us : List (List ℕ)) → joinAll (place [] us) ≡ joinAll us
+unfolding place
+none-placed [] = refl
+none-placed (u ∷ us) = by-test (before [] u) (λ b. rw b) (λ b. rw b (ap (λ (d : List ℕ). u ++ d) (none-placed us)))
+
+pub tlv-none : (d : List ℕ) → isRow d ≡ true → withTlv [] d ≡ d
+unfolding withTlv
+tlv-none d r = none-placed (tlvs d) ∙ tlvs-joined d r
+
 module _ (t d : List ℕ) (g : good dataLimit d ≡ true) (w : Whole t) (n : among t (tlvs d) ≡ false) (l : length d + length t ≤ dataLimit) where
   pub put-good : good dataLimit (withTlv t d) ≡ true
   unfolding withTlv
@@ -145,12 +160,24 @@ module _ (t d : List ℕ) (g : good dataLimit d ≡ true) (w : Whole t) (n : amo
   unfolding withTlv
   put-tlvs = place-tlvs dataLimit d t g w n l
 
-  -- not a Peer TLV
-  pub put-other : (ps : List Peer) → Linked d ps → ¬ (typeOf t ≡ 8) → Linked (withTlv t d) ps
-  put-other ps k ne u = rw put-tlvs (into, λ m. let r = k u .1 m in (in-place t u (tlvs d) (inr (r .0)), r .1))
+  -- of another type
+  pub put-other : (y : ℕ) (ts : List (List ℕ)) → Only y d ts → ¬ (typeOf t ≡ y) → Only y (withTlv t d) ts
+  put-other y ts k ne u = rw put-tlvs (into, λ m. let r = k u .1 m in (in-place t u (tlvs d) (inr (r .0)), r .1))
     where
-      into : In u (place t (tlvs d)) × (typeOf u ≡ 8) → In u (map peerTlv ps)
+      into : In u (place t (tlvs d)) × (typeOf u ≡ y) → In u ts
       into (m, e) = ⊎-elim (λ q. absurd (ne (ap typeOf (sym q) ∙ e))) (λ r. k u .0 (r, e)) (place-in t u (tlvs d) m)
+
+-- ---- TLVs taken out
+
+module _ (f : List ℕ → Bool) (y : ℕ) (d : List ℕ) where
+  -- none of this type
+  pub keep-other : (ts : List (List ℕ)) → Only y d ts → ((t : List ℕ) → typeOf t ≡ y → f t ≡ true) → Only y (joinAll (keep f (tlvs d))) ts
+  keep-other ts k h t =
+      rw (keep-tlvs f d) (λ (m, e). k t .0 (keep-in f t (tlvs d) m .0, e), λ m. let r = k t .1 m in (in-keep f t (tlvs d) (r .0) (h t (r .1)), r .1))
+
+  -- all of this type
+  pub keep-none-of : ((t : List ℕ) → typeOf t ≡ y → f t ≡ false) → Only y (joinAll (keep f (tlvs d))) []
+  keep-none-of h t = rw (keep-tlvs f d) (λ (m, e). no-way (f t) (keep-in f t (tlvs d) m .1) (h t e), λ m. absurd m)
 
 -- a new peer's TLV
 module _ (p : Peer) (d : List ℕ) (ps : List Peer) (k : Linked d ps) (u : known p ps ≡ false) where
@@ -167,6 +194,9 @@ module _ (p : Peer) (d : List ℕ) (ps : List Peer) (k : Linked d ps) (u : known
     pub peer-good : good dataLimit (withTlv (peerTlv p) d) ≡ true
     peer-good = put-good (peerTlv p) d g (peer-whole p) peer-new fits
 
+    pub peer-chosen : (es : List Endpoint) → Chosen d es → Chosen (withTlv (peerTlv p) d) es
+    peer-chosen es h = put-other (peerTlv p) d g (peer-whole p) peer-new fits 9 (keepAlives 1 (intervalsOf es)) h (λ e. omega (arith, peer-type p))
+
     pub peer-linked : Linked (withTlv (peerTlv p) d) (ps ++ (p ∷ []))
     peer-linked t = rw (put-tlvs (peerTlv p) d g (peer-whole p) peer-new fits, map-append peerTlv ps (p ∷ [])) (into, back)
       where
@@ -180,8 +210,6 @@ module _ (p : Peer) (d : List ℕ) (ps : List Peer) (k : Linked d ps) (u : known
             ⊎-elim (λ r. let q = k t .1 r in (in-place (peerTlv p) t (tlvs d) (inr (q .0)), q .1))
             (⊎-elim (λ q. (in-place (peerTlv p) t (tlvs d) (inl q), ap typeOf q ∙ peer-type p)) (λ z. absurd z))
             (in-append t (map peerTlv ps) (peerTlv p ∷ []) m)
-
--- ---- TLVs taken out
 
 -- whether t is the Peer TLV of one of these peers
 abbrev pub names : List Peer → List ℕ → Bool
@@ -222,6 +250,17 @@ module _ (f : Peer → Bool) (d : List ℕ) (ps : List Peer) (g : good dataLimit
   unfolding withoutPeers
   gone-good = keep-good (λ t. not (names (keep f ps) t)) dataLimit d g
 
+  -- their TLVs alone
+  pub gone-chosen : (es : List Endpoint) → Chosen d es → Chosen (withoutPeers (keep f ps) d) es
+  unfolding withoutPeers
+  gone-chosen es h = keep-other (λ t. not (names (keep f ps) t)) 9 d (keepAlives 1 (intervalsOf es)) h (λ t e. not-no (names (keep f ps) t) (unnamed t e))
+    where
+      unnamed : (t : List ℕ) → typeOf t ≡ 9 → names (keep f ps) t ≡ false
+      unnamed t e =
+          by-test (names (keep f ps) t)
+          (λ b. let r = in-any (λ p. same (peerTlv p) t) (keep f ps) b in absurd (omega (arith, peer-type (r .0), ap typeOf (same-is (peerTlv (r .0)) t (r .2)), e)))
+          (λ b. b)
+
   pub gone-linked : Linked d ps → Once ps → Linked (withoutPeers (keep f ps) d) (keep (λ p. not (f p)) ps)
   unfolding withoutPeers
   gone-linked k o t = rw (keep-tlvs left d) (into, back)
@@ -238,27 +277,25 @@ module _ (f : Peer → Bool) (d : List ℕ) (ps : List Peer) (g : good dataLimit
           let h : In t (tlvs d) × (typeOf t ≡ 8) = k t .1 (r .0) in
           (in-keep left t (tlvs d) (h .0) (not-no _ (r .1)), h .1)
 
--- no peers: every Peer TLV goes
-module _ (d : List ℕ) (g : good dataLimit d ≡ true) where
-  pub none-good : good dataLimit (withoutLinks d) ≡ true
-  none-good = keep-good (λ t. not (eqb (typeOf t) 8)) dataLimit d g
+-- no peers and no choices: every TLV about our links goes
+module _ (d : List ℕ) where
+  pub none-good : good dataLimit d ≡ true → good dataLimit (withoutLinks d) ≡ true
+  none-good g = keep-good (λ t. not (ofLinks t)) dataLimit d g
 
-  pub none-linked : Linked (withoutLinks d) []
-  none-linked t = rw (keep-tlvs (λ u. not (eqb (typeOf u) 8)) d) (into, λ m. absurd m)
-    where
-      into : In t (keep (λ u. not (eqb (typeOf u) 8)) (tlvs d)) × (typeOf t ≡ 8) → ⊥
-      into (m, e) =
-          let r : In t (tlvs d) × (not (eqb (typeOf t) 8) ≡ true) = keep-in (λ u. not (eqb (typeOf u) 8)) t (tlvs d) m in
-          no-way (eqb (typeOf t) 8) (eq-eqb (typeOf t) 8 e) (no-not (eqb (typeOf t) 8) (r .1))
+  pub none-linked : Only 8 (withoutLinks d) []
+  none-linked = keep-none-of (λ t. not (ofLinks t)) 8 d (λ t e. rw e)
 
-pub empty-linked : Linked [] []
-empty-linked t = rw (tlvs-end [] refl) (λ r. r .0, λ m. absurd m)
+  pub none-chosen : Only 9 (withoutLinks d) []
+  none-chosen = keep-none-of (λ t. not (ofLinks t)) 9 d (λ t e. rw e)
+
+pub empty-only : (y : ℕ) → Only y [] []
+empty-only y t = rw (tlvs-end [] refl) (λ r. r .0, λ m. absurd m)
 
 -- ---- a payment put in
 
-module _ (p : Payment) (d : List ℕ) (ps : List Peer) (k : Linked d ps) (g : good dataLimit d ≡ true) (n : among (paymentTlv p) (tlvs d) ≡ false) (l : length d + length (paymentTlv p) ≤ dataLimit) where
+module _ (p : Payment) (d : List ℕ) (g : good dataLimit d ≡ true) (n : among (paymentTlv p) (tlvs d) ≡ false) (l : length d + length (paymentTlv p) ≤ dataLimit) where
   pub paid-good : good dataLimit (withTlv (paymentTlv p) d) ≡ true
   paid-good = put-good (paymentTlv p) d g (payment-whole p) n l
 
-  pub paid-linked : Linked (withTlv (paymentTlv p) d) ps
-  paid-linked = put-other (paymentTlv p) d g (payment-whole p) n l ps k (λ e. omega (arith, payment-type p))
+  pub paid-only : (y : ℕ) (ts : List (List ℕ)) → ¬ (40 ≡ y) → Only y d ts → Only y (withTlv (paymentTlv p) d) ts
+  paid-only y ts ne k = put-other (paymentTlv p) d g (payment-whole p) n l y ts k (λ e. ne (sym (payment-type p) ∙ e))

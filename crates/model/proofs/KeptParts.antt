@@ -5,10 +5,11 @@ use mathlib.Core.Bool.{true, false, _&&_}
 use mathlib.Core.List.{List, [], _∷_, map}
 use mathlib.Core.Option.{Option, none, some}
 use mathlib.Core.Logic.{inl}
-use Prim.Native.Nat.{ℕ, suc, pred, _*_, _/_, _%_, _≤_, _<_, min}
+use Prim.Native.Nat.{ℕ, zero, suc, pred, _*_, _/_, _%_, _≤_, _<_, min}
 use native.Mathlib.Omega.{arith}
 use native.Mathlib.Nat.{mod-lt}
-use lib.ListN.{length, length-set, length-map}
+use lib.ListN.{length, getD, length-set, length-map}
+use lib.Seq.{map-set-same}
 use lib.Dec.{eqb, ltb, leb}
 use borrow.Author.Tests.{eqb-true, eqb-false, ltb-false, leb-true, not-false}
 use Rattle.base.specs.Lists.{any, orElse, isSome, In, All}
@@ -23,9 +24,9 @@ use Rattle.model.specs.Sequence.{circle, advance}
 use Rattle.model.specs.Table.{Entry, idOf, entryOf, look, put, anew}
 use Rattle.model.specs.Digest.{networkDigest}
 use Rattle.model.specs.Trickle.{Trickle, fresh, hear, spend, reset, event, pointDue, intervalOver}
-use Rattle.model.specs.State.{State, Peer, Endpoint, withTable, withPeers, withTrickle, endpointAt, withEndpoint, noEndpoint, noEntry, ownEntry, ownData, publishAs, peerTlv, isPeer, contacted, resetAll, settle}
+use Rattle.model.specs.State.{State, Peer, Endpoint, withTable, withPeers, withEndpoints, withTrickle, endpointAt, withEndpoint, noEndpoint, noEntry, ownEntry, ownData, publishAs, peerTlv, isPeer, contacted, resetAll, settle}
 use Rattle.model.specs.Refusals.{Row, firstOf, late, back, noSuchEndpoint}
-use Rattle.model.specs.Invariant.{EntryFits, PeerFits, Once, intervals, TrickleFits, EndpointFits, TableFits, PeersFit, Linked, Midway, Valid}
+use Rattle.model.specs.Invariant.{EntryFits, PeerFits, Once, intervals, TrickleFits, EndpointFits, TableFits, PeersFit, Linked, Chosen, EndpointsFit, Midway, Valid}
 
 -- ---- a call that is not refused: no row of its table applies, and what that says of the reading and the endpoint
 
@@ -59,7 +60,8 @@ module _ {a b : ℕ} (l : a ≤ b) where
   trickle-later t f = record { interval = f .interval; low = f .low; high = f .high; count = f .count; start = omega (arith, f .start) }
 
   endpoint-later : (e : Endpoint) → EndpointFits a e → EndpointFits b e
-  endpoint-later e f = record { trickle = trickle-later (e .trickle) (f .trickle); next = omega (arith, f .next) }
+  endpoint-later e f =
+      record { trickle = trickle-later (e .trickle) (f .trickle); next = omega (arith, f .next); least = f .least; most = f .most; quiet = omega (arith, f .quiet) }
 
 -- into a call, and out of it
 pub valid-midway : (clock : ℕ) (s : State) → Valid s → s .last ≤ clock → Midway clock s
@@ -79,6 +81,7 @@ valid-midway clock s v l =
         all = all-more (PeerFits (s .own) (s .last)) (PeerFits (s .own) clock) (peer-later l) (s .peers) (m .peers .all);
       };
       links = m .links;
+      choices = m .choices;
       endpoints = record {
         four = m .endpoints .four;
         all = all-more (EndpointFits (s .last)) (EndpointFits clock) (endpoint-later l) (s .endpoints) (m .endpoints .all);
@@ -150,18 +153,20 @@ module _ {clock : ℕ} (e : Entry) (s : State) (m : Midway clock s) (ne : ¬ (id
         table = put-fits e (s .table) (m .table) f room;
         peers = m .peers;
         links = subst (λ (e : Entry). Linked (e .says .nodeData) (s .peers)) (sym foreign-own) (m .links);
+        choices = subst (λ (e : Entry). Chosen (e .says .nodeData) (s .endpoints)) (sym foreign-own) (m .choices);
         endpoints = m .endpoints;
       }
 
--- our own entry, published, with the peers that its data names
+-- our own entry, published, with the peers and the intervals that its data names
 module _ {clock : ℕ} (n : ℕ) (d : List ℕ) (ps : List Peer) (s : State) where
   pub published-own : ownEntry (withPeers ps (publishAs clock n d s)) ≡ entryOf (s .own) n d (anew clock)
   unfolding ownEntry publishAs
   published-own = rw (look-put (entryOf (s .own) n d (anew clock)) (s .table))
 
-  pub publish-kept : Midway clock s → n < circle → good dataLimit d ≡ true → PeersFit (s .own) clock ps → Linked d ps → Midway clock (withPeers ps (publishAs clock n d s))
-  unfolding publishAs
-  publish-kept m l g p k =
+  pub publish-kept : Midway clock s → n < circle → good dataLimit d ≡ true → PeersFit (s .own) clock ps → Linked d ps
+      → (es : List Endpoint) → EndpointsFit clock es → Chosen d es → Midway clock (withEndpoints es (withPeers ps (publishAs clock n d s)))
+  unfolding publishAs ownEntry
+  publish-kept m l g p k es f h =
       let e : Entry = entryOf (s .own) n d (anew clock) in
       record {
         own = m .own;
@@ -169,13 +174,14 @@ module _ {clock : ℕ} (n : ℕ) (d : List ℕ) (ps : List Peer) (s : State) whe
             (λ q. let z : _≡_ {A = ℕ} 0 1 = cc (midway-held s m) in absurd (omega arith));
         peers = p;
         links = subst (λ (e : Entry). Linked (e .says .nodeData) ps) (sym published-own) k;
-        endpoints = m .endpoints;
+        choices = subst (λ (e : Entry). Chosen (e .says .nodeData) es) (sym published-own) h;
+        endpoints = f;
       }
 
 -- the same data, under another number
 pub republish-kept : {clock : ℕ} (n : ℕ) (s : State) → Midway clock s → n < circle → Midway clock (publishAs clock n (ownData s) s)
 unfolding publishAs
-republish-kept n s m l = publish-kept n (ownData s) (s .peers) s m l (midway-own s m .fine) (m .peers) (m .links)
+republish-kept n s m l = publish-kept n (ownData s) (s .peers) s m l (midway-own s m .fine) (m .peers) (m .links) (s .endpoints) (m .endpoints) (m .choices)
 
 pub advance-fits : (n k : ℕ) → advance n k < circle
 unfolding advance
@@ -224,6 +230,7 @@ module _ (n theirs ours clock : ℕ) where
           all = all-map (PeerFits (s .own) clock) (contacted n theirs ours clock) (contacted-fits (s .own)) (s .peers) (m .peers .all);
         };
         links = rw (contacted-tlvs (s .peers)) (m .links);
+        choices = m .choices;
         endpoints = m .endpoints;
       }
 
@@ -233,14 +240,16 @@ module _ {clock : ℕ} (i : ℕ) (low : 1 ≤ i) (high : i ≤ 4) (s : State) (m
   pub endpoint-fits : EndpointFits clock (endpointAt i s)
   endpoint-fits = all-at (EndpointFits clock) noEndpoint (s .endpoints) (pred i) (m .endpoints .all) (omega (arith, m .endpoints .four))
 
-  pub endpoint-kept : (e : Endpoint) → EndpointFits clock e → Midway clock (withEndpoint i e s)
+  -- with the interval that it had
+  pub endpoint-kept : (e : Endpoint) → EndpointFits clock e → e .keep ≡ endpointAt i s .keep → Midway clock (withEndpoint i e s)
   unfolding ownEntry
-  endpoint-kept e f =
+  endpoint-kept e f q =
       record {
         own = m .own;
         table = m .table;
         peers = m .peers;
         links = m .links;
+        choices = rw (map-set-same (λ (x : Endpoint). x .keep) (s .endpoints) (pred i) e noEndpoint q) (m .choices);
         endpoints = record { four = length-set (s .endpoints) (pred i) e ∙ m .endpoints .four; all = all-set (EndpointFits clock) (s .endpoints) (pred i) e (m .endpoints .all) f };
       }
 
@@ -285,12 +294,12 @@ event-fits clock r t f =
     (λ q. rw (b, q) f))
 
 pub with-trickle : (clock : ℕ) (t : Trickle) (e : Endpoint) → EndpointFits clock e → TrickleFits clock t → EndpointFits clock (withTrickle t e)
-with-trickle clock t e f g = record { trickle = g; next = f .next }
+with-trickle clock t e f g = record { trickle = g; next = f .next; least = f .least; most = f .most; quiet = f .quiet }
 
 -- ---- a reading taken
 
 module _ (clock : ℕ) where
-  resets-length : (rs : List ℕ) (es : List Endpoint) → length (resetAll clock rs es) ≡ length es
+  pub resets-length : (rs : List ℕ) (es : List Endpoint) → length (resetAll clock rs es) ≡ length es
   unfolding resetAll
   resets-length rs [] = refl
   resets-length [] (e ∷ es) = refl
@@ -301,6 +310,23 @@ module _ (clock : ℕ) where
   resets-fit rs [] h = tt
   resets-fit [] (e ∷ es) h = h
   resets-fit (r ∷ rs) (e ∷ es) h = (with-trickle clock (reset clock r (e .trickle)) e (h .0) (reset-fits clock r (e .trickle) (h .0 .trickle)), resets-fit rs es (h .1))
+
+  -- one endpoint of them is reset, or as it was
+  pub resets-each : (P : Endpoint → Type 0) → ((r : ℕ) (e : Endpoint) → P e → P (withTrickle (reset clock r (e .trickle)) e)) → (rs : List ℕ) (es : List Endpoint) (j : ℕ)
+      → j < length es → P (getD es j noEndpoint) → P (getD (resetAll clock rs es) j noEndpoint)
+  unfolding resetAll
+  resets-each P f rs [] j l h = h
+  resets-each P f [] (e ∷ es) j l h = h
+  resets-each P f (r ∷ rs) (e ∷ es) zero l h = f r e h
+  resets-each P f (r ∷ rs) (e ∷ es) (suc j) l h = resets-each P f rs es j (omega (arith, l)) h
+
+  -- what is no part of its Trickle state stays
+  pub resets-aside : (f : Endpoint → ℕ) → ((t : Trickle) (e : Endpoint) → f (withTrickle t e) ≡ f e) → (rs : List ℕ) (es : List Endpoint)
+      → map f (resetAll clock rs es) ≡ map f es
+  unfolding resetAll
+  resets-aside f h rs [] = refl
+  resets-aside f h [] (e ∷ es) = refl
+  resets-aside f h (r ∷ rs) (e ∷ es) = rw (h (reset clock r (e .trickle)) e, resets-aside f h rs es)
 
   pub settle-own : (rs : List ℕ) (s : State) → settle clock rs s .own ≡ s .own
   unfolding settle
@@ -314,6 +340,8 @@ module _ (clock : ℕ) where
         table = m .table;
         peers = m .peers;
         links = m .links;
+        choices = by-test (same (s .digest) (networkDigest (s .own) clock (s .table))) (λ b. rw b (m .choices))
+            (λ b. rw b (rw (resets-aside (λ (e : Endpoint). e .keep) (λ t e. refl) rs (s .endpoints)) (m .choices)));
         endpoints = by-test (same (s .digest) (networkDigest (s .own) clock (s .table))) (λ b. rw b (m .endpoints))
             (λ b. rw b (record { four = resets-length rs (s .endpoints) ∙ m .endpoints .four; all = resets-fit rs (s .endpoints) (m .endpoints .all) }));
       }

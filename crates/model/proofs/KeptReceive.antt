@@ -14,7 +14,7 @@ use Rattle.base.proofs.Tests.{and-left, and-right}
 use Rattle.base.proofs.Bytes.{bytes-take, bytes-drop, u32-small}
 use Rattle.base.proofs.Sorted.{find-some}
 use Rattle.sha256.specs.Sha256.{hash16}
-use Rattle.wire.specs.Row.{lengthOf, valueOf, tlvs}
+use Rattle.wire.specs.Row.{lengthOf, valueOf}
 use Rattle.wire.specs.Order.{good}
 use Rattle.model.specs.Figures.{mostNodes, dataLimit, publishLimit, mostPeers, mostAge, peerBytes, requestGap, reclaimStep, mostBytes}
 use Rattle.model.specs.Sequence.{circle, advance}
@@ -22,16 +22,16 @@ use Rattle.model.specs.Table.{Entry, idOf, look}
 use Rattle.model.specs.Trickle.{hear}
 use Rattle.model.specs.State.{State, Peer, withTable, endpointAt, withTrickle, withNext, ownSeq, ownData, publishAs, peerTlv, withTlv, settle}
 use Rattle.model.specs.Decide.{Received, Decision, receivedOf, taken, withData, withoutData, wantedNew, wantedHeld, differs, decide, after}
-use Rattle.model.specs.Handle.{Context, Work, fits, newPeer, roomForPeer, addPeer, allTlvs}
+use Rattle.model.specs.Handle.{Context, fits, newPeer, roomForPeer, addPeer}
 use Rattle.model.specs.Refusals.{Row, late, back, noSuchEndpoint, smallRoom, long, noRow}
-use Rattle.model.specs.Receive.{Call, Answer, contextOf, startOf, handled, refusalReceive, answered, receive}
+use Rattle.model.specs.Receive.{Call, Answer, contextOf, handled, refusalReceive, answered, receive}
 use Rattle.model.specs.Invariant.{EntryFits, PeerFits, EndpointFits, Valid, Midway}
 use Rattle.model.proofs.KeptParts.{none-applies, not-late, not-back, one-to-four, valid-midway, settle-valid, settle-own, midway-own, foreign-kept, publish-kept, republish-kept, advance-fits, touch-kept, endpoint-fits, endpoint-kept, hear-fits, with-trickle}
-use Rattle.model.proofs.KeptData.{known, acceptable, peers-new, peer-good, peer-linked}
+use Rattle.model.proofs.KeptData.{known, acceptable, peers-new, peer-good, peer-linked, peer-chosen}
 use Rattle.wire.proofs.Good.{tlvs-bytes}
 use Rattle.base.proofs.Options.{by-cond, by-or-else}
-use Rattle.base.proofs.Lists.{all-in, in-all}
-use Rattle.model.proofs.KeptSteps.{Steps, senderIn, all-hold}
+use Rattle.base.proofs.Lists.{all-in}
+use Rattle.model.proofs.KeptSteps.{Steps, senderIn, handled-holds, receive-holds}
 
 -- ---- what a received Node State about another node puts into the table
 
@@ -111,7 +111,7 @@ after-kept clock r s m ne Decision.dropped k = m
 -- ---- the steps keep the invariant
 
 pub add-kept : (clock : ℕ) (p : Peer) (s : State) → Midway clock s → PeerFits (s .own) clock p → known p (s .peers) ≡ false → roomForPeer s ≡ true → Midway clock (addPeer clock p s)
-unfolding addPeer
+unfolding addPeer publishAs
 add-kept clock p s m f u b =
     let few : length (s .peers) < mostPeers = ltb-true (length (s .peers)) mostPeers (and-left _ _ b) in
     let room : length (ownData s) + peerBytes ≤ dataLimit = acceptable (leb-true (length (ownData s) + peerBytes) publishLimit (and-right (ltb (length (s .peers)) mostPeers) _ b)) in
@@ -119,18 +119,21 @@ add-kept clock p s m f u b =
     publish-kept (advance (ownSeq s) 1) (withTlv (peerTlv p) (ownData s)) (s .peers ++ (p ∷ [])) s m (advance-fits (ownSeq s) 1)
     (peer-good p (ownData s) (s .peers) (m .links) u g room)
     (peers-new (s .peers) (m .peers) p few u f)
-    (peer-linked p (ownData s) (s .peers) (m .links) u g room)
+    (peer-linked p (ownData s) (s .peers) (m .links) u g room) (s .endpoints) (m .endpoints)
+    (peer-chosen p (ownData s) (s .peers) (m .links) u g room (s .endpoints) (m .choices))
 
 module _ (c : Context) (low : 1 ≤ c .endpoint) (high : c .endpoint ≤ 4) where
   pub steps-kept : (v : List ℕ) → Bytes v → Steps c (Midway (c .clock)) v
   steps-kept v h =
       record {
-        asks = λ s m. endpoint-kept (c .endpoint) low high s m (withNext (c .clock + requestGap) (endpointAt (c .endpoint) s))
-            (record { trickle = endpoint-fits (c .endpoint) low high s m .trickle; next = omega arith });
+        asks = λ s m. let e : EndpointFits (c .clock) (endpointAt (c .endpoint) s) = endpoint-fits (c .endpoint) low high s m in
+            endpoint-kept (c .endpoint) low high s m (withNext (c .clock + requestGap) (endpointAt (c .endpoint) s))
+            (record { trickle = e .trickle; next = omega arith; least = e .least; most = e .most; quiet = e .quiet }) refl;
         touches = λ f s m. touch-kept (f .node) (f .endpoint) (c .endpoint) (c .clock) s m;
         hears = λ s m. let e : EndpointFits (c .clock) (endpointAt (c .endpoint) s) = endpoint-fits (c .endpoint) low high s m in
             endpoint-kept (c .endpoint) low high s m (withTrickle (hear (endpointAt (c .endpoint) s .trickle)) (endpointAt (c .endpoint) s))
-            (with-trickle (c .clock) (hear (endpointAt (c .endpoint) s .trickle)) (endpointAt (c .endpoint) s) e (hear-fits (c .clock) (endpointAt (c .endpoint) s .trickle) (e .trickle)));
+            (with-trickle (c .clock) (hear (endpointAt (c .endpoint) s .trickle)) (endpointAt (c .endpoint) s) e (hear-fits (c .clock) (endpointAt (c .endpoint) s .trickle) (e .trickle)))
+            refl;
         greets = λ s ne u b m. add-kept (c .clock) (newPeer c (senderIn v)) s m
             (record { node = u32-small v 0 h; theirs = u32-small v 4 h; first = low; fourth = high; foreign = ne; contact = omega arith }) u b;
         reclaims = λ s m. republish-kept (advance (receivedOf v .seq) reclaimStep) s m (advance-fits (receivedOf v .seq) reclaimStep);
@@ -145,10 +148,8 @@ unfolding valueOf
 value-bytes t h = bytes-take (lengthOf t) (drop 4 t) (bytes-drop 4 t h)
 
 pub handled-kept : (c : Call) (s : State) → 1 ≤ c .endpoint → c .endpoint ≤ 4 → Bytes (c .datagram) → Midway (c .clock) s → Midway (c .clock) (handled s c .state)
-unfolding handled
 handled-kept c s low high h m =
-    all-hold (contextOf s c) (Midway (c .clock)) (tlvs (c .datagram)) (startOf s)
-    (in-all (λ t. Steps (contextOf s c) (Midway (c .clock)) (valueOf t)) (tlvs (c .datagram)) (λ t k. steps-kept (contextOf s c) low high (valueOf t) (value-bytes t (tlvs-bytes (c .datagram) t h k)))) m
+    handled-holds (Midway (c .clock)) c s (λ t k. steps-kept (contextOf s c) low high (valueOf t) (value-bytes t (tlvs-bytes (c .datagram) t h k))) m
 
 abbrev rows : Call → State → List Row
 rows c s =
@@ -174,11 +175,6 @@ steps-own : (c : Context) (own : ℕ) (v : List ℕ) → Steps c (λ (s : State)
 unfolding addPeer publishAs
 steps-own c own v = record { asks = λ s h. h; touches = λ f s h. h; hears = λ s h. h; greets = λ s ne u b h. h; reclaims = λ s h. h; takes = λ s ne h. h }
 
-pub handled-own : (c : Context) (ts : List (List ℕ)) (w : Work) → allTlvs c ts w .state .own ≡ w .state .own
-handled-own c ts w = all-hold c (λ (s : State). s .own ≡ w .state .own) ts w (in-all (λ t. Steps c (λ (s : State). s .own ≡ w .state .own) (valueOf t)) ts (λ t m. steps-own c (w .state .own) (valueOf t))) refl
-
 pub receive-own : (c : Call) (s : State) → receive c s .state .own ≡ s .own
-unfolding receive handled
 receive-own c s =
-    by-cond (λ (a : Answer). a .state .own ≡ s .own) (eqb (refusalReceive c s) 0) (answered c (handled s c)) _
-    (λ b. settle-own (c .clock) (c .randoms) (handled s c .state) ∙ handled-own (contextOf s c) (tlvs (c .datagram)) (startOf s)) (λ b. refl)
+    receive-holds (λ (u : State). u .own ≡ s .own) c s (λ t m. steps-own (contextOf s c) (s .own) (valueOf t)) (λ u h. settle-own (c .clock) (c .randoms) u ∙ h) refl

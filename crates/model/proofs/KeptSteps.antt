@@ -6,18 +6,20 @@ use Prim.Native.Nat.{ℕ}
 use lib.ListN.{length, take}
 use lib.Dec.{eqb, leb}
 use borrow.Author.Tests.{eqb-false}
-use Rattle.base.specs.Lists.{All}
+use Rattle.base.specs.Lists.{In, All}
 use Rattle.base.specs.Bytes.{u32At, same}
-use Rattle.wire.specs.Row.{typeOf, valueOf}
+use Rattle.wire.specs.Row.{typeOf, valueOf, tlvs}
 use Rattle.model.specs.Figures.{reclaimStep}
 use Rattle.model.specs.Sequence.{advance}
 use Rattle.model.specs.Table.{look}
 use Rattle.model.specs.Reach.{inReach}
-use Rattle.model.specs.State.{State, withTable, ownEntry, ownData, publishAs}
+use Rattle.model.specs.State.{State, withTable, ownEntry, ownData, publishAs, settle}
 use Rattle.model.specs.Messages.{requestNetworkTlv, requestNodeTlv, networkTlv, shortState, wholeState}
 use Rattle.model.specs.Decide.{Decision, receivedOf, differs, decide, after}
+use Rattle.base.proofs.Lists.{in-all}
 use Rattle.base.proofs.Options.{by-cond, by-or-else}
 use Rattle.model.specs.Handle.{Context, Sender, Work, withState, withSender, withOut, omitOne, dropOne, fits, piece, reply, replies, mayAsk, hasAsked, askNetwork, touchBy, touch, digestNow, reachedNow, onRequestNetwork, onRequestNode, newPeer, roomForPeer, addPeer, greet, knows, onStranger, onEndpoint, countEqual, onEqual, onNetwork, onOwnState, carryOut, onState, atLeast, onTlv, oneTlv, allTlvs}
+use Rattle.model.specs.Receive.{Call, Answer, contextOf, startOf, handled, refusalReceive, answered, receive}
 
 -- ---- a reply leaves the state alone
 
@@ -130,3 +132,17 @@ module _ (c : Context) (P : State → Type 0) where
   unfolding allTlvs
   all-hold [] w k h = h
   all-hold (t ∷ ts) w k h = all-hold ts (oneTlv c t w) (k .1) (one-holds t w (k .0) h)
+
+-- ---- a whole datagram, and the call
+
+module _ (P : State → Type 0) (c : Call) (s : State) (k : (t : List ℕ) → In t (tlvs (c .datagram)) → Steps (contextOf s c) P (valueOf t)) where
+  pub handled-holds : P s → P (handled s c .state)
+  unfolding handled
+  handled-holds h =
+      all-hold (contextOf s c) P (tlvs (c .datagram)) (startOf s) (in-all (λ t. Steps (contextOf s c) P (valueOf t)) (tlvs (c .datagram)) k) h
+
+  -- refused or not, where settling keeps it too
+  pub receive-holds : ((u : State) → P u → P (settle (c .clock) (c .randoms) u)) → P s → P (receive c s .state)
+  unfolding receive
+  receive-holds f h =
+      by-cond (λ (a : Answer). P (a .state)) (eqb (refusalReceive c s) 0) (answered c (handled s c)) _ (λ b. f (handled s c .state) (handled-holds h)) (λ b. h)

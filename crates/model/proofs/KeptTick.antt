@@ -1,24 +1,24 @@
 -- A tick keeps the invariant: silent peers go with their TLVs, and at most one endpoint has an event. Assumes nothing.
 use mathlib.Core.Path.{_≡_, refl}
-use mathlib.Core.Bool.{true, false, not, _||_}
+use mathlib.Core.Bool.{true, false, not, _&&_, _||_}
 use mathlib.Core.List.{List, [], _∷_}
-use Prim.Native.Nat.{ℕ, _≤_}
+use Prim.Native.Nat.{ℕ, _+_, _≤_}
 use native.Mathlib.Omega.{arith}
 use lib.Dec.{eqb, leb}
 use Rattle.base.specs.Lists.{keep, All}
 use Rattle.wire.specs.Order.{good}
-use Rattle.model.specs.Figures.{dataLimit, refreshAge, mostBytes, lastReading}
+use Rattle.model.specs.Figures.{dataLimit, refreshAge, mostBytes, lastReading, mostDelay}
 use Rattle.model.specs.Sequence.{advance}
 use Rattle.model.specs.Table.{ageAt}
-use Rattle.model.specs.Trickle.{event}
-use Rattle.model.specs.State.{State, Peer, withPeers, endpointAt, randomAt, withTrickle, ownEntry, ownSeq, ownData, publish, settle}
+use Rattle.model.specs.Trickle.{Event, isIdle}
+use Rattle.model.specs.State.{State, Peer, Endpoint, withPeers, endpointAt, randomAt, quietFrom, ownEntry, ownSeq, ownData, publishAs, publish, settle}
 use Rattle.model.specs.Refusals.{Row, late, back, noSuchEndpoint, smallRoom}
-use Rattle.model.specs.Tick.{goes, withoutPeers, someOf, dropSilent, Sent, withEvent, ticked, refusalTick, tick}
-use Rattle.model.specs.Invariant.{EndpointFits, Valid, Midway}
+use Rattle.model.specs.Tick.{goes, withoutPeers, someOf, dropSilent, Sent, keepAliveDue, endpointEvent, afterEvent, withEvent, ticked, refusalTick, tick}
+use Rattle.model.specs.Invariant.{TrickleFits, EndpointFits, Valid, Midway}
 use Rattle.model.proofs.Cases.{silent-own}
-use Rattle.model.proofs.KeptParts.{none-applies, not-late, not-back, one-to-four, valid-midway, midway-own, publish-kept, advance-fits, endpoint-fits, endpoint-kept, event-fits, with-trickle, settle-midway}
+use Rattle.model.proofs.KeptParts.{none-applies, not-late, not-back, one-to-four, valid-midway, midway-own, publish-kept, advance-fits, endpoint-fits, endpoint-kept, fresh-fits, event-fits, settle-midway}
 use Rattle.base.proofs.Options.{by-cond}
-use Rattle.model.proofs.KeptData.{peers-keep, gone-good, gone-linked}
+use Rattle.model.proofs.KeptData.{peers-keep, gone-good, gone-linked, gone-chosen}
 
 -- the peers that go leave, and so do their TLVs
 module _ (clock i : ℕ) (s : State) where
@@ -29,12 +29,14 @@ module _ (clock i : ℕ) (s : State) where
   left = keep (λ p. not (goes clock i (s .table) p)) (s .peers)
 
   drop-kept : Midway clock s → Midway clock (withPeers left (publish clock (withoutPeers gone (ownData s)) s))
+  unfolding publishAs
   drop-kept m =
       let g : good dataLimit (ownData s) ≡ true = midway-own s m .fine in
       publish-kept (advance (ownSeq s) 1) (withoutPeers gone (ownData s)) left s m (advance-fits (ownSeq s) 1)
       (gone-good (goes clock i (s .table)) (ownData s) (s .peers) g)
       (peers-keep (s .peers) (m .peers) (λ p. not (goes clock i (s .table) p)))
-      (gone-linked (goes clock i (s .table)) (ownData s) (s .peers) g (m .links) (m .peers .once))
+      (gone-linked (goes clock i (s .table)) (ownData s) (s .peers) g (m .links) (m .peers .once)) (s .endpoints) (m .endpoints)
+      (gone-chosen (goes clock i (s .table)) (ownData s) (s .peers) g (s .endpoints) (m .choices))
 
   pub silent-kept : Midway clock s → Midway clock (dropSilent clock i s)
   unfolding dropSilent
@@ -42,11 +44,28 @@ module _ (clock i : ℕ) (s : State) where
       by-cond (Midway clock) (someOf gone || leb refreshAge (ageAt clock (ownEntry s))) (withPeers left (publish clock (withoutPeers gone (ownData s)) s)) s (λ b. drop-kept m) (λ b. m)
 
 -- the endpoint's event
-event-kept : (clock i random : ℕ) (s : State) → 1 ≤ i → i ≤ 4 → Midway clock s → Midway clock (withEvent i s (event clock random (endpointAt i s .trickle)) .state)
+endpoint-event-fits : (clock random : ℕ) (e : Endpoint) → EndpointFits clock e → TrickleFits clock (endpointEvent clock random e .next)
+unfolding endpointEvent
+endpoint-event-fits clock random e f =
+    by-cond (λ (v : Event). TrickleFits clock (v .next)) (isIdle clock (e .trickle) && keepAliveDue clock e) _ _ (λ b. fresh-fits clock (e .trickle .interval) random (f .trickle .interval))
+    (λ b. event-fits clock random (e .trickle) (f .trickle))
+
+after-event-fits : (clock random : ℕ) (v : Event) (e : Endpoint) → EndpointFits clock e → TrickleFits clock (v .next) → EndpointFits clock (afterEvent clock random v e)
+after-event-fits clock random v e f t =
+    record {
+      trickle = t;
+      next = f .next;
+      least = f .least;
+      most = f .most;
+      quiet = by-cond (λ (n : ℕ). n ≤ clock + mostDelay) (v .sends) (quietFrom clock random) (e .quiet) (λ b. omega arith) (λ b. f .quiet);
+    }
+
+event-kept : (clock i random : ℕ) (s : State) → 1 ≤ i → i ≤ 4 → Midway clock s → Midway clock (withEvent clock random i s (endpointEvent clock random (endpointAt i s)) .state)
 event-kept clock i random s low high m =
     let f : EndpointFits clock (endpointAt i s) = endpoint-fits i low high s m in
-    endpoint-kept i low high s m (withTrickle (event clock random (endpointAt i s .trickle) .next) (endpointAt i s))
-    (with-trickle clock (event clock random (endpointAt i s .trickle) .next) (endpointAt i s) f (event-fits clock random (endpointAt i s .trickle) (f .trickle)))
+    let v : Event = endpointEvent clock random (endpointAt i s) in
+    endpoint-kept i low high s m (afterEvent clock random v (endpointAt i s))
+    (after-event-fits clock random v (endpointAt i s) f (endpoint-event-fits clock random (endpointAt i s) f)) refl
 
 module _ (clock i : ℕ) (rs : List ℕ) (s : State) where
   pub ticked-valid : Midway clock s → 1 ≤ i → i ≤ 4 → clock ≤ lastReading → Valid (ticked clock i rs s .state)

@@ -1,5 +1,6 @@
 -- The proofs of the model's theorems, and the laws that the layers above cite.
 pub mod Cases
+pub mod Happening
 pub mod Circle
 pub mod Merge
 pub mod OneCall
@@ -11,6 +12,7 @@ pub mod KeptReceive
 pub mod KeptTick
 pub mod Snapshots
 pub mod KeptCalls
+pub mod KeptChoice
 pub mod Aside
 pub mod Traffic
 pub mod OwnPayments
@@ -18,7 +20,10 @@ pub mod Kept
 pub mod Totals
 pub mod Served
 pub mod Sent
-pub mod TwoTicks
+pub mod ThreeTicks
+pub mod Readings
+pub mod Waiting
+pub mod Sendings
 pub mod Marked
 pub mod Levels
 pub mod Turns

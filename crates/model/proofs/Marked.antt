@@ -17,7 +17,8 @@ use Rattle.model.specs.Decide.{receivedOf, withData, wantedNew, wantedHe
 use Rattle.model.specs.Handle.{piece, reply, replies, askNetwork, touch, onRequestNetwork, onRequestNode, addPeer, greet, onStranger, onEndpoint, onEqual, onNetwork, onOwnState, onState, carryOut, onTlv, oneTlv, allTlvs}
 use Rattle.model.specs.Begin.{started, begun}
 use Rattle.model.specs.Receive.{handled, receive}
-use Rattle.model.specs.Tick.{intervalIn, intervalOf, goes, withoutPeers, dropSilent, ticked, tick}
+use Rattle.model.specs.Tick.{intervalIn, intervalOf, goes, withoutPeers, dropSilent, endpointEvent, ticked, tick}
+use Rattle.model.specs.KeepAlive.{keepAliveTlv, withKeepAlive, withChoice, chosen, keepAlive}
 use Rattle.model.specs.Pay.{paid, pay}
 use Rattle.model.specs.Totals.{paymentsIn, readable, unreadable, totalOf, sumOf, total}
 use Rattle.model.specs.Show.{shown}
@@ -30,7 +31,7 @@ unfolding examples offset older groupsOf groups anyGroups readGroups encode paym
 marked-examples = record { hold = refl; number = refl }
 
 pub session : Session
-unfolding edges find insert kTable zeros pad wordAt blockAt initial nextWord extend schedule roundOf rounds compress hash hashValue sha256 hash16 typeOf lengthOf valueOf sizeOf heads rowOf row isRow tlvs encode before climbs ascending good place among groupsOf groups anyGroups readGroups unfolded paymentValue paymentTlv ended readPayment offset older advance look put links joined touched levelsFrom levels met marked inReach reached digestOf networkDigest fresh spend reset event ownEntry publishAs peerTlv withTlv resetAll settle stateHead receivedOf withData wantedNew wantedHeld differs decide after piece reply replies askNetwork touch onRequestNetwork onRequestNode addPeer greet onStranger onEndpoint onEqual onNetwork onOwnState onState carryOut onTlv oneTlv allTlvs started begun handled receive intervalIn intervalOf goes withoutPeers dropSilent ticked tick paid pay paymentsIn readable unreadable totalOf sumOf total shown saveEntry saved reads loadEntries load republished resumed resume
+unfolding edges find insert kTable zeros pad wordAt blockAt initial nextWord extend schedule roundOf rounds compress hash hashValue sha256 hash16 typeOf lengthOf valueOf sizeOf heads rowOf row isRow tlvs encode before climbs ascending good place among groupsOf groups anyGroups readGroups unfolded paymentValue paymentTlv ended readPayment offset older advance look put links joined touched levelsFrom levels met marked inReach reached digestOf networkDigest fresh spend reset event ownEntry publishAs peerTlv withTlv resetAll settle stateHead receivedOf withData wantedNew wantedHeld differs decide after piece reply replies askNetwork touch onRequestNetwork onRequestNode addPeer greet onStranger onEndpoint onEqual onNetwork onOwnState onState carryOut onTlv oneTlv allTlvs started begun handled receive intervalIn intervalOf goes withoutPeers dropSilent endpointEvent ticked tick keepAliveTlv withKeepAlive withChoice chosen keepAlive paid pay paymentsIn readable unreadable totalOf sumOf total shown saveEntry saved reads loadEntries load republished resumed resume
 session =
     record {
       figures = refl;
@@ -53,6 +54,12 @@ session =
       gone = refl;
       interval = refl;
       usual = refl;
+      delays = refl;
+      early = refl;
+      alive = refl;
+      chosen = refl;
+      unchanged = refl;
+      unchosen = refl;
       old = refl;
       renewed = refl;
       paid = refl;

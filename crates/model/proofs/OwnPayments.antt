@@ -12,7 +12,7 @@ use borrow.Author.Tests.{eqb-false, eq-eqb, ne-eqb}
 use Rattle.base.specs.Lists.{any, keep, orElse, In}
 use Rattle.base.specs.Bytes.{same}
 use Rattle.base.proofs.Tests.{no-way, by-test}
-use Rattle.base.proofs.Lists.{in-any, in-all, in-keep, keep-in, keep-same, keep-keep}
+use Rattle.base.proofs.Lists.{in-any, in-keep, keep-in, keep-same, keep-keep}
 use Rattle.base.proofs.Options.{by-cond, by-or-else}
 use Rattle.base.proofs.Sorted.{find-yes}
 use Rattle.wire.specs.Row.{typeOf, valueOf, tlvs}
@@ -23,31 +23,34 @@ use Rattle.wire.proofs.Ordering.{same-is}
 use Rattle.wire.proofs.Rows.{tlvs-end}
 use Rattle.wire.proofs.Good.{Whole, place-whole, place-in, in-place, keep-place, keep-tlvs, tlvs-row, wholes-always}
 use Rattle.wire.proofs.Encoded.{payment-whole, payment-type}
-use Rattle.model.specs.Figures.{mostNodes, dataLimit, refreshAge, reclaimStep}
+use Rattle.model.specs.Figures.{mostNodes, dataLimit, refreshAge, usualInterval, reclaimStep}
 use Rattle.model.specs.Sequence.{advance}
 use Rattle.model.specs.Table.{Entry, idOf, entryOf, ageAt, look, anew}
-use Rattle.model.specs.State.{State, Peer, withTable, withPeers, noEntry, ownEntry, ownSeq, ownData, publishAs, publish, peerTlv, withTlv, settle}
+use Rattle.model.specs.State.{State, Peer, withTable, withPeers, endpointAt, noEntry, ownEntry, ownSeq, ownData, publishAs, publish, peerTlv, withTlv, settle}
 use Rattle.model.specs.Decide.{Received, Decision, receivedOf, taken, withData, withoutData, wantedNew, wantedHeld, differs, decide, after}
 use Rattle.model.specs.Reach.{reached}
 use Rattle.model.specs.Handle.{Context, newPeer, addPeer}
-use Rattle.model.specs.Receive.{Call, Answer, contextOf, startOf, handled, refusalReceive, answered, receive}
-use Rattle.model.specs.Tick.{Sent, goes, someOf, withoutPeers, dropSilent, ticked, refusalTick, tick}
+use Rattle.model.specs.Receive.{Call, contextOf, receive}
+use Rattle.model.specs.Tick.{Sent, goes, someOf, withoutPeers, dropSilent, isKeepAlive, ticked, refusalTick, tick}
+use Rattle.model.specs.KeepAlive.{keepAliveTlv, withoutKeepAlive, withKeepAlive, withChoice, chosen, refusalKeepAlive, keepAlive}
 use Rattle.model.specs.Begin.{Done, started, begun}
 use Rattle.model.specs.Pay.{paid, refusalPay, pay, purged, refusalPurge, purge}
 use Rattle.model.specs.Totals.{isPayment, paymentsOf}
-use Rattle.model.specs.Snapshot.{Snapshot, withoutLinks, republished, resumed}
+use Rattle.model.specs.Snapshot.{Snapshot, ofLinks, withoutLinks, republished, resumed}
 use Rattle.model.specs.Refusals.{late, back, smallTable}
 use Rattle.model.specs.Invariant.{Valid}
 use Rattle.model.specs.Theorems.{ownPayments, OwnPaymentsStay}
 use Rattle.model.proofs.KeptParts.{none-applies, not-back, valid-midway, look-put, look-other, published-own}
 use Rattle.model.proofs.KeptData.{peer-whole, peer-type}
-use Rattle.model.proofs.KeptSteps.{Steps, senderIn, all-hold}
+use Rattle.model.proofs.KeptChoice.{alive-whole, alive-type, alive-nine}
+use Rattle.model.proofs.KeptSteps.{Steps, senderIn, receive-holds}
 use Rattle.model.proofs.KeptCalls.{reached-held}
 
 -- ---- node data: TLVs that are no payments come and go
 
-no-payment : (t : List ℕ) → typeOf t ≡ 8 → isPayment t ≡ false
-no-payment t e = ne-eqb (typeOf t) 40 (λ q. omega (arith, e, q))
+-- a TLV of another type
+no-payment : (t : List ℕ) {y : ℕ} → ¬ (y ≡ 40) → typeOf t ≡ y → isPayment t ≡ false
+no-payment t n e = ne-eqb (typeOf t) 40 (λ q. n (sym e ∙ q))
 
 payments-with : (t d : List ℕ) → Whole t → isPayment t ≡ false → paymentsOf (withTlv t d) ≡ paymentsOf d
 unfolding withTlv
@@ -57,21 +60,22 @@ payments-with t d w n = rw (tlvs-row (place t (tlvs d)) (place-whole t (tlvs d) 
 payments-kept : (f : List ℕ → Bool) (ts : List (List ℕ)) → ((t : List ℕ) → isPayment t ≡ true → f t ≡ true) → keep isPayment (keep f ts) ≡ keep isPayment ts
 payments-kept f ts h =
     keep-keep f isPayment ts
-    ∙ keep-same (λ t. f t && isPayment t) isPayment ts (λ t. by-test (isPayment t) (λ b. rw (b, h t b)) (λ b. rw b (and-false (f t))))
+    ∙ keep-same (λ t. f t && isPayment t) isPayment ts (λ t m. by-test (isPayment t) (λ b. rw (b, h t b)) (λ b. rw b (and-false (f t))))
 
-payment-no-link : (t : List ℕ) → isPayment t ≡ true → ¬ (typeOf t ≡ 8)
-payment-no-link t b e = no-way (isPayment t) b (no-payment t e)
+payment-apart : (t : List ℕ) {y : ℕ} → ¬ (y ≡ 40) → isPayment t ≡ true → ¬ (typeOf t ≡ y)
+payment-apart t n b e = no-way (isPayment t) b (no-payment t n e)
 
 payments-without : (ps : List Peer) (d : List ℕ) → paymentsOf (withoutPeers ps d) ≡ paymentsOf d
 unfolding withoutPeers
 payments-without ps d =
     rw (keep-tlvs (λ t. not (any (λ p. same (peerTlv p) t) ps)) d)
     (payments-kept (λ t. not (any (λ p. same (peerTlv p) t) ps)) (tlvs d) (λ t b. by-test (any (λ p. same (peerTlv p) t) ps)
-    (λ q. let r = in-any (λ p. same (peerTlv p) t) ps q in absurd (payment-no-link t b (ap typeOf (sym (same-is (peerTlv (r .0)) t (r .2))) ∙ peer-type (r .0)))) (λ q. ap not q)))
+    (λ q. let r = in-any (λ p. same (peerTlv p) t) ps q in absurd (payment-apart t (omega arith) b (ap typeOf (sym (same-is (peerTlv (r .0)) t (r .2))) ∙ peer-type (r .0)))) (λ q. ap not q)))
 
 payments-unlinked : (d : List ℕ) → paymentsOf (withoutLinks d) ≡ paymentsOf d
 payments-unlinked d =
-    rw (keep-tlvs (λ t. not (eqb (typeOf t) 8)) d) (payments-kept (λ t. not (eqb (typeOf t) 8)) (tlvs d) (λ t b. ap not (ne-eqb (typeOf t) 8 (payment-no-link t b))))
+    rw (keep-tlvs (λ t. not (ofLinks t)) d) (payments-kept (λ t. not (ofLinks t)) (tlvs d)
+    (λ t b. rw (ne-eqb (typeOf t) 8 (payment-apart t (omega arith) b), ne-eqb (typeOf t) 9 (payment-apart t (omega arith) b))))
 
 -- ---- steps on the state
 
@@ -122,7 +126,7 @@ steps-stay c l v =
       touches = λ f s h. h;
       hears = λ s h. h;
       greets = λ s ne u b h. published (c .clock) (advance (ownSeq s) 1) (withTlv (peerTlv (newPeer c (senderIn v))) (ownData s)) (s .peers ++ (newPeer c (senderIn v) ∷ [])) s
-          ∙ payments-with (peerTlv (newPeer c (senderIn v))) (ownData s) (peer-whole (newPeer c (senderIn v))) (no-payment (peerTlv (newPeer c (senderIn v))) (peer-type (newPeer c (senderIn v)))) ∙ h;
+          ∙ payments-with (peerTlv (newPeer c (senderIn v))) (ownData s) (peer-whole (newPeer c (senderIn v))) (no-payment (peerTlv (newPeer c (senderIn v))) (omega arith) (peer-type (newPeer c (senderIn v)))) ∙ h;
       reclaims = λ s h. published (c .clock) (advance (receivedOf v .seq) reclaimStep) (ownData s) (s .peers) s ∙ h;
       takes = λ s ne h. ap (λ (e : Entry). paymentsOf (e .says .nodeData)) (taken-own (receivedOf v .node) s ne (decide (c .clock) (s .table) (receivedOf v)) (decided (c .clock) (s .table) (receivedOf v))) ∙ h;
     }
@@ -138,13 +142,8 @@ unfolding settle ownEntry
 settled clock rs s = refl
 
 receives : (c : Call) (s : State) → ownPayments (receive c s .state) ≡ ownPayments s
-unfolding receive handled
 receives c s =
-    by-cond (λ (a : Answer). ownPayments (a .state) ≡ ownPayments s) (eqb (refusalReceive c s) 0) (answered c (handled s c)) _
-    (λ b. settled (c .clock) (c .randoms) (handled s c .state)
-    ∙ all-hold (contextOf s c) (λ (r : State). ownPayments r ≡ ownPayments s) (tlvs (c .datagram)) (startOf s)
-    (in-all (λ t. Steps (contextOf s c) (λ (r : State). ownPayments r ≡ ownPayments s) (valueOf t)) (tlvs (c .datagram)) (λ t m. steps-stay (contextOf s c) (ownPayments s) (valueOf t))) refl)
-    (λ b. refl)
+    receive-holds (λ (r : State). ownPayments r ≡ ownPayments s) c s (λ t m. steps-stay (contextOf s c) (ownPayments s) (valueOf t)) (λ u h. settled (c .clock) (c .randoms) u ∙ h) refl
 
 silent : (clock i : ℕ) (s : State) → ownPayments (dropSilent clock i s) ≡ ownPayments s
 unfolding dropSilent
@@ -158,6 +157,28 @@ unfolding tick ticked ownEntry
 ticks clock i rs table room s =
     by-cond (λ (a : Sent). ownPayments (a .state) ≡ ownPayments s) (eqb (refusalTick clock i table room s) 0) (ticked clock i rs s) _
     (λ b. settled clock rs (dropSilent clock i s) ∙ silent clock i s) (λ b. refl)
+
+-- a chosen interval changes a Keep-Alive TLV alone
+payments-alive : (i n : ℕ) (d : List ℕ) → paymentsOf (withKeepAlive i n d) ≡ paymentsOf d
+unfolding withKeepAlive
+payments-alive i n d =
+    by-cond (λ (x : List ℕ). paymentsOf x ≡ paymentsOf d) (eqb n usualInterval) (withoutKeepAlive i d) (withTlv (keepAliveTlv i n) (withoutKeepAlive i d)) (λ b. without)
+    (λ b. payments-with (keepAliveTlv i n) (withoutKeepAlive i d) (alive-whole i n) (no-payment (keepAliveTlv i n) (omega arith) (alive-type i n)) ∙ without)
+  where
+    without : paymentsOf (withoutKeepAlive i d) ≡ paymentsOf d
+    without =
+        rw (keep-tlvs (λ t. not (isKeepAlive i t)) d)
+        (payments-kept (λ t. not (isKeepAlive i t)) (tlvs d)
+        (λ t b. by-test (isKeepAlive i t) (λ q. absurd (payment-apart t (omega arith) b (alive-nine i t q))) (λ q. ap not q)))
+
+chooses : (clock i n : ℕ) (rs : List ℕ) (table : ℕ) (s : State) → ownPayments (keepAlive clock i n rs table s .state) ≡ ownPayments s
+unfolding keepAlive chosen withChoice ownEntry publishAs
+chooses clock i n rs table s =
+    by-cond (λ (a : Done). ownPayments (a .state) ≡ ownPayments s) (eqb (refusalKeepAlive clock i n table s) 0) (record { number = 0; state = chosen clock i n rs s }) _
+    (λ b. settled clock rs (withChoice clock i n s)
+    ∙ by-cond (λ (r : State). ownPayments r ≡ ownPayments s) (eqb (endpointAt i s .keep) n) s _ (λ q. refl)
+    (λ q. published clock (advance (ownSeq s) 1) (withKeepAlive i n (ownData s)) (s .peers) s ∙ payments-alive i n (ownData s)))
+    (λ b. refl)
 
 reached-payments : (clock : ℕ) (s : State) → look (s .own) (reached (s .own) clock (s .table)) ≡ some (ownEntry s) → ownPayments (withTable (reached (s .own) clock (s .table)) s) ≡ ownPayments s
 unfolding ownEntry
@@ -209,4 +230,4 @@ resumes clock rs b e q =
     ∙ payments-unlinked (before .says .nodeData) ∙ ap paymentsFound q
 
 pub own-payments-stay : OwnPaymentsStay
-own-payments-stay = record { receives = receives; ticks = ticks; purges = purges; pays = pays; begins = begins; resumes = resumes }
+own-payments-stay = record { receives = receives; ticks = ticks; chooses = chooses; purges = purges; pays = pays; begins = begins; resumes = resumes }

@@ -1,14 +1,15 @@
 -- Refusals: a call that is refused answers the first number of its table that applies and nothing else, and changes no state. Assumes nothing.
 use mathlib.Core.Path.{_≡_, refl, sym, ap, _∙_}
-use mathlib.Core.Bool.{Bool, true, false, cond, _&&_}
+use mathlib.Core.Bool.{Bool, true, false, not, cond, _&&_}
 use mathlib.Core.List.{List, [], _∷_, _++_, map}
-use Prim.Native.Nat.{ℕ, _<_}
-use native.Mathlib.Omega.{arith}
+use mathlib.Core.Logic.{inl, inr}
+use Prim.Native.Nat.{ℕ}
 use lib.ListN.{replicate}
-use lib.Dec.{eqb, ltb}
-use borrow.Author.Tests.{eqb-true, ltb-true, ne-eqb}
-use Rattle.base.specs.Lists.{orElse, All}
-use Rattle.base.proofs.Tests.{by-test, and-left, and-right}
+use lib.Dec.{eqb}
+use borrow.Author.Tests.{eqb-true, eqb-false, ne-eqb}
+use Rattle.base.specs.Lists.{any, orElse, In, All}
+use Rattle.base.proofs.Tests.{by-test, and-left, and-right, no-not}
+use Rattle.base.proofs.Lists.{not-any}
 use Rattle.model.specs.Table.{idOf}
 use Rattle.model.specs.Reach.{reached}
 use Rattle.model.specs.Digest.{networkDigest}
@@ -17,6 +18,7 @@ use Rattle.model.specs.Refusals.{Row, firstOf}
 use Rattle.model.specs.Begin.{Done, begun, refusalBegin, begin}
 use Rattle.model.specs.Receive.{Answer, handled, answered, refusalReceive, receive}
 use Rattle.model.specs.Tick.{Sent, ticked, refusalTick, tick}
+use Rattle.model.specs.KeepAlive.{chosen, refusalKeepAlive, keepAlive}
 use Rattle.model.specs.Pay.{paid, refusalPay, pay, purged, refusalPurge, purge}
 use Rattle.model.specs.Totals.{Summed, totalOf, sumOf, unreadable, paymentsIn, reachable, notSummed, refusalTotal, total, refusalSum, sum}
 use Rattle.model.specs.Show.{Marks, refusalMarks, marks, refusalShow, shown}
@@ -45,7 +47,7 @@ unchanged n a s h =
     ap (λ (d : Done). d .state) (refused (λ (d : Done). d .number) n (record { number = 0; state = a }) (record { number = n; state = s }) refl h)
 
 pub refusals-change-nothing : RefusalsChangeNothing
-unfolding begin resume receive tick ticked pay purge total sum marks save shown
+unfolding begin resume receive tick ticked keepAlive pay purge total sum marks save shown
 refusals-change-nothing =
     record {
       begins = λ own clock rs table s. unchanged (refusalBegin clock table) (begun own clock rs) s;
@@ -54,6 +56,7 @@ refusals-change-nothing =
           (λ n. record { number = n; state = s; bytes = []; omitted = 0; dropped = 0 }) refl (λ k. refl);
       ticks = λ clock i rs table room s. refused-as (λ a. a .number) (refusalTick clock i table room s) (ticked clock i rs s)
           (λ n. record { number = n; state = s; bytes = [] }) refl (λ k. refl);
+      chooses = λ clock i n rs table s. unchanged (refusalKeepAlive clock i n table s) (chosen clock i n rs s) s;
       pays = λ clock p rs table s. unchanged (refusalPay clock p table s) (paid clock p rs s) s;
       purges = λ clock rs table s. unchanged (refusalPurge clock table s) (purged clock rs s) s;
       totals = λ clock h table s. refused-as (λ a. a .number) (refusalTotal clock h table s)
@@ -68,61 +71,61 @@ refusals-change-nothing =
       shows = λ n table s h. rw (ne-eqb (refusalShow n table s) 0 h);
     }
 
--- ---- the first row that applies, where numbers rise
+-- ---- the first row that applies, where every row has a number of its own
 
--- numbers above n, ascending
-abbrev rise : ℕ → List Row → Bool
-rise n [] = true
-rise n (r ∷ rs) = ltb n (r .number) && rise (r .number) rs
+-- numbers that are none of those seen, each once
+abbrev once : List ℕ → List Row → Bool
+once seen [] = true
+once seen (r ∷ rs) = not (any (eqb (r .number)) seen) && once (r .number ∷ seen) rs
 
-module _ (n : ℕ) (r : Row) (rs : List Row) (h : rise n (r ∷ rs) ≡ true) where
-  head-above : n < r .number
-  head-above = ltb-true n (r .number) (and-left (ltb n (r .number)) (rise (r .number) rs) h)
+module _ (seen : List ℕ) (r : Row) (rs : List Row) (h : once seen (r ∷ rs) ≡ true) where
+  head-new : (n : ℕ) → In n seen → ¬ (r .number ≡ n)
+  head-new n m =
+      eqb-false (r .number) n (not-any (eqb (r .number)) n seen (no-not (any (eqb (r .number)) seen) (and-left _ _ h)) m)
 
-  rest-rise : rise (r .number) rs ≡ true
-  rest-rise = and-right (ltb n (r .number)) (rise (r .number) rs) h
+  rest-once : once (r .number ∷ seen) rs ≡ true
+  rest-once = and-right (not (any (eqb (r .number)) seen)) (once (r .number ∷ seen) rs) h
 
--- a row further on has a greater number, and so has what is answered, unless it is 0
-later-above : (n : ℕ) (rs : List Row) (r : Row) (us : List Row) → rise n (rs ++ (r ∷ us)) ≡ true → n < r .number
-later-above n [] r us h = head-above n r us h
-later-above n (q ∷ rs) r us h = omega (arith, head-above n q (rs ++ (r ∷ us)) h, later-above (q .number) rs r us (rest-rise n q (rs ++ (r ∷ us)) h))
+-- a row further on has another number than those seen, and so has what is answered, unless it is 0
+later-new : (seen : List ℕ) (n : ℕ) → In n seen → (rs : List Row) (r : Row) (us : List Row) → once seen (rs ++ (r ∷ us)) ≡ true → ¬ (r .number ≡ n)
+later-new seen n m [] r us h = head-new seen r us h n m
+later-new seen n m (q ∷ rs) r us h = later-new (q .number ∷ seen) n (inr m) rs r us (rest-once seen q (rs ++ (r ∷ us)) h)
 
-first-above : (n : ℕ) (rs : List Row) → rise n rs ≡ true → ¬ (firstOf rs ≡ 0) → n < firstOf rs
-first-above n [] h z = absurd (z refl)
-first-above n (r ∷ rs) h z =
-    by-test (r .applies) (λ b. rw b (head-above n r rs h))
-    (λ b. rw b (omega (arith, head-above n r rs h, first-above (r .number) rs (rest-rise n r rs h) (rw b at z))))
+first-new : (seen : List ℕ) (n : ℕ) → In n seen → (rs : List Row) → once seen rs ≡ true → ¬ (firstOf rs ≡ 0) → ¬ (firstOf rs ≡ n)
+first-new seen n m [] h z = absurd (z refl)
+first-new seen n m (r ∷ rs) h z =
+    by-test (r .applies) (λ b. rw b (head-new seen r rs h n m)) (λ b. rw b (first-new (r .number ∷ seen) n (inr m) rs (rest-once seen r rs h) (rw b at z)))
 
 none-first : (rs : List Row) → All (λ r. r .applies ≡ false) rs → firstOf rs ≡ 0
 none-first [] a = refl
 none-first (r ∷ rs) a = rw (a .0) (none-first rs (a .1))
 
-first-none : (n : ℕ) (rs : List Row) → rise n rs ≡ true → firstOf rs ≡ 0 → All (λ r. r .applies ≡ false) rs
-first-none n [] h e = tt
-first-none n (r ∷ rs) h e =
-    by-test (r .applies) (λ b. absurd (omega (arith, head-above n r rs h, rw b at e))) (λ b. (b, first-none (r .number) rs (rest-rise n r rs h) (rw b at e)))
+first-none : (seen : List ℕ) → In 0 seen → (rs : List Row) → once seen rs ≡ true → firstOf rs ≡ 0 → All (λ r. r .applies ≡ false) rs
+first-none seen z [] h e = tt
+first-none seen z (r ∷ rs) h e =
+    by-test (r .applies) (λ b. absurd (head-new seen r rs h 0 z (rw b at e))) (λ b. (b, first-none (r .number ∷ seen) (inr z) rs (rest-once seen r rs h) (rw b at e)))
 
 row-first : (rs : List Row) (r : Row) (us : List Row) → All (λ q. q .applies ≡ false) rs → r .applies ≡ true → firstOf (rs ++ (r ∷ us)) ≡ r .number
 row-first [] r us a b = rw b
 row-first (q ∷ rs) r us a b = rw (a .0) (row-first rs r us (a .1) b)
 
-first-row : (n : ℕ) (rs : List Row) (r : Row) (us : List Row) → rise n (rs ++ (r ∷ us)) ≡ true → firstOf (rs ++ (r ∷ us)) ≡ r .number
+first-row : (seen : List ℕ) → In 0 seen → (rs : List Row) (r : Row) (us : List Row) → once seen (rs ++ (r ∷ us)) ≡ true → firstOf (rs ++ (r ∷ us)) ≡ r .number
     → All (λ q. q .applies ≡ false) rs × (r .applies ≡ true)
-first-row n [] r us h e =
+first-row seen z [] r us h e =
     by-test (r .applies) (λ b. (tt, b))
     (λ b. let f : firstOf us ≡ r .number = rw b at e in
-    absurd (omega (arith, head-above n r us h, first-above (r .number) us (rest-rise n r us h) (λ z. omega (arith, head-above n r us h)))))
-first-row n (q ∷ rs) r us h e =
-    let k : rise (q .number) (rs ++ (r ∷ us)) ≡ true = rest-rise n q (rs ++ (r ∷ us)) h in
-    by-test (q .applies) (λ b. absurd (omega (arith, later-above (q .number) rs r us k, rw b at e)))
-    (λ b. let i : All (λ p. p .applies ≡ false) rs × (r .applies ≡ true) = first-row (q .number) rs r us k (rw b at e) in ((b, i .0), i .1))
+    absurd (first-new (r .number ∷ seen) (r .number) (inl refl) us (rest-once seen r us h) (λ k. head-new seen r us h 0 z (sym f ∙ k)) f))
+first-row seen z (q ∷ rs) r us h e =
+    let k : once (q .number ∷ seen) (rs ++ (r ∷ us)) ≡ true = rest-once seen q (rs ++ (r ∷ us)) h in
+    by-test (q .applies) (λ b. absurd (later-new (q .number ∷ seen) (q .number) (inl refl) rs r us k (sym (rw b at e))))
+    (λ b. let i : All (λ p. p .applies ≡ false) rs × (r .applies ≡ true) = first-row (q .number ∷ seen) (inr z) rs r us k (rw b at e) in ((b, i .0), i .1))
 
-exact : (rows : List Row) → rise 0 rows ≡ true → (n : ℕ) → n ≡ firstOf rows → Exact n rows
+exact : (rows : List Row) → once (0 ∷ []) rows ≡ true → (n : ℕ) → n ≡ firstOf rows → Exact n rows
 exact rows h n e =
     record {
       answered = e;
-      none = (λ z. first-none 0 rows h (sym e ∙ z), λ a. e ∙ none-first rows a);
-      first = λ rs r us s. (λ q. first-row 0 rs r us (rw s at h) (ap firstOf (sym s) ∙ sym e ∙ q), λ a. e ∙ ap firstOf s ∙ row-first rs r us (a .0) (a .1));
+      none = (λ z. first-none (0 ∷ []) (inl refl) rows h (sym e ∙ z), λ a. e ∙ none-first rows a);
+      first = λ rs r us s. (λ q. first-row (0 ∷ []) (inl refl) rs r us (rw s at h) (ap firstOf (sym s) ∙ sym e ∙ q), λ a. e ∙ ap firstOf s ∙ row-first rs r us (a .0) (a .1));
     }
 
 -- a call's number is that of its table
@@ -130,13 +133,14 @@ number-is : {A : Type 0} (number : A → ℕ) (n : ℕ) (done refusal : A) → n
 number-is number n done refusal z k = by-test (eqb n 0) (λ e. rw e (z ∙ sym (eqb-true n 0 e))) (λ e. rw e k)
 
 pub refusals-exact : RefusalsExact
-unfolding begin resume receive tick ticked pay purge total sum marks save
+unfolding begin resume receive tick ticked keepAlive pay purge total sum marks save
 refusals-exact =
     record {
       begins = λ own clock rs table s. exact _ refl _ (number-is (λ (d : Done). d .number) (refusalBegin clock table) _ _ refl refl);
       resumes = λ clock bytes rs table s. exact _ refl _ (number-is (λ (d : Done). d .number) (refusalResume clock bytes table) _ _ refl refl);
       receives = λ c s. exact _ refl _ (number-is (λ (a : Answer). a .number) (refusalReceive c s) _ _ refl refl);
       ticks = λ clock i rs table room s. exact _ refl _ (number-is (λ (a : Sent). a .number) (refusalTick clock i table room s) _ _ refl refl);
+      chooses = λ clock i n rs table s. exact _ refl _ (number-is (λ (d : Done). d .number) (refusalKeepAlive clock i n table s) _ _ refl refl);
       pays = λ clock p rs table s. exact _ refl _ (number-is (λ (d : Done). d .number) (refusalPay clock p table s) _ _ refl refl);
       purges = λ clock rs table s. exact _ refl _ (number-is (λ (d : Done). d .number) (refusalPurge clock table s) _ _ refl refl);
       totals = λ clock h table s. exact _ refl _ (number-is (λ (a : Summed). a .number) (refusalTotal clock h table s) _ _ refl refl);

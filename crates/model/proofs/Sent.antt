@@ -19,12 +19,11 @@ use Rattle.wire.proofs.Good.{Wholes, row-joined, wholes-append}
 use Rattle.model.specs.Figures.{mostBytes}
 use Rattle.model.specs.Table.{Entry}
 use Rattle.model.specs.Digest.{digestOf, networkDigest}
-use Rattle.model.specs.Trickle.{event}
 use Rattle.model.specs.State.{State, endpointAt, randomAt, settle}
 use Rattle.model.specs.Messages.{endpointTlv, networkTlv}
 use Rattle.model.specs.Handle.{Context, Work, oneTlv, allTlvs}
 use Rattle.model.specs.Receive.{Call, contextOf, startOf, refusalReceive, receive}
-use Rattle.model.specs.Tick.{dropSilent, announcement, ticked, refusalTick, tick}
+use Rattle.model.specs.Tick.{dropSilent, announcement, endpointEvent, ticked, refusalTick, tick}
 use Rattle.model.specs.Theorems.{Form, SentForm}
 use Rattle.model.proofs.Cases.{endpoint-length, receive-accepted, receive-refused, silent-own, tick-accepted, tick-refused}
 use Rattle.base.proofs.Lists.{join-append}
@@ -99,7 +98,7 @@ unfolding ticked
 ticked-form clock i rs s =
     let d : State = dropSilent clock i s in
     subst (λ (n : ℕ). Form n i (ticked clock i rs s .bytes)) (silent-own clock i s)
-    (settled-form clock i rs d (event clock (randomAt i rs) (endpointAt i (settle clock rs d) .trickle) .sends))
+    (settled-form clock i rs d (endpointEvent clock (randomAt i rs) (endpointAt i (settle clock rs d)) .sends))
 
 tick-form : (clock i : ℕ) (rs : List ℕ) (table room : ℕ) (s : State) → Form (s .own) i (tick clock i rs table room s .bytes)
 tick-form clock i rs table room s =

@@ -166,7 +166,7 @@ module _ (h : ℕ) where
 
 pub sum-is : (ss : List Statement) → sumOf ss ≡ tally anyPayment (paymentsIn ss)
 unfolding sumOf tally
-sum-is ss = rw (keep-every anyPayment (readable (paymentsIn ss)) (λ p. refl))
+sum-is ss = rw (keep-every anyPayment (readable (paymentsIn ss)) (λ p m. refl))
 
 -- a node that publishes one payment and no more: that amount is its household's total, and nothing is another's
 module _ (p : Payment) (k : Payable p) (s : Statement) (e : s .nodeData ≡ paymentTlv p) where

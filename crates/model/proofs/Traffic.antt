@@ -30,8 +30,9 @@ use Rattle.model.proofs.Merge.{nodeOf, saysOf, Sorted, Within, Agreed, 
 use Rattle.model.proofs.OneCall.{seen, accepted-seen, refused-same, one-seen, on-state, on-foreign, carry-seen}
 use Rattle.model.proofs.KeptReceive.{receive-own}
 use Rattle.model.proofs.KeptTick.{tick-own}
+use Rattle.model.proofs.KeptChoice.{keep-alive-own}
 use Rattle.model.proofs.KeptCalls.{pay-own}
-use Rattle.model.proofs.Aside.{apart, theirs, apart-not, apart-absorb, Outcome, outcome, after-sorted, Aside, one-aside, tick-aside, pay-aside}
+use Rattle.model.proofs.Aside.{apart, theirs, apart-not, apart-absorb, Outcome, outcome, after-sorted, Aside, one-aside, tick-aside, choice-aside, pay-aside}
 
 -- ---- a TLV about another node
 
@@ -186,6 +187,8 @@ module _ (all : List Statement) (a : Agreed all) (own : ℕ) (nodes : List ℕ) 
       (λ b. let z : ys ≡ zs = sym (append-nil ys) ∙ rw b at q in rw (refused-same s c b) (subst (λ (l : List Statement). Going l s) z g))
   turn-going (Turn.ticks clock i rs table room) s ys zs q k g =
       subst (λ (l : List Statement). Going l (turned s (Turn.ticks clock i rs table room))) (sym (append-nil ys) ∙ q) (aside ys s _ (tick-aside clock s i rs table room) g)
+  turn-going (Turn.chooses clock i n rs table) s ys zs q k g =
+      subst (λ (l : List Statement). Going l (turned s (Turn.chooses clock i n rs table))) (sym (append-nil ys) ∙ q) (aside ys s _ (choice-aside clock s i n rs table) g)
   turn-going (Turn.pays clock p rs table) s ys zs q k g =
       subst (λ (l : List Statement). Going l (turned s (Turn.pays clock p rs table))) (sym (append-nil ys) ∙ q) (aside ys s _ (pay-aside clock s p rs table) g)
 
@@ -252,6 +255,7 @@ heard-only s t x m =
 turn-own : (x : Turn) (s : State) → turned s x .own ≡ s .own
 turn-own (Turn.receives c) s = receive-own c s
 turn-own (Turn.ticks clock i rs table room) s = tick-own clock i rs table room s
+turn-own (Turn.chooses clock i n rs table) s = keep-alive-own clock i n rs table s
 turn-own (Turn.pays clock p rs table) s = pay-own clock p rs table s
 
 own-stays : (s : State) (xs : List Turn) → turns s xs .own ≡ s .own

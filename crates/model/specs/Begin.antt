@@ -1,13 +1,13 @@
--- Beginning (document 01, Numbers a call may answer). Assumes nothing.
+-- Beginning (document 01, Numbers a call may answer; document 02, Keep quiet links alive). Assumes nothing.
 use mathlib.Core.Bool.{cond}
 use mathlib.Core.List.{List, [], _∷_, map}
 use Prim.Native.Nat.{ℕ}
 use lib.Dec.{eqb}
-use Rattle.model.specs.Figures.{leastInterval}
+use Rattle.model.specs.Figures.{leastInterval, usualInterval}
 use Rattle.model.specs.Table.{Entry, entryOf, anew}
 use Rattle.model.specs.Digest.{networkDigest}
 use Rattle.model.specs.Trickle.{fresh}
-use Rattle.model.specs.State.{State, Endpoint}
+use Rattle.model.specs.State.{State, Endpoint, quietFrom}
 use Rattle.model.specs.Refusals.{firstOf, late, smallTable}
 
 -- the answer of a call that only changes state: its number (0 if accepted), and the state
@@ -15,9 +15,13 @@ pub record Done : Type 0 where
   pub number : ℕ
   pub state : State
 
--- "Beginning and resuming start all endpoints afresh with I = 200"; nothing is requested yet
+-- "Beginning and resuming start all endpoints afresh with I = 200"; nothing is requested yet; "beginning and resuming count as" a sending
+abbrev pub freshEndpoint : ℕ → ℕ → Endpoint
+freshEndpoint clock random =
+    record { trickle = fresh clock leastInterval random; next = 0; keep = usualInterval; quiet = quietFrom clock random }
+
 abbrev pub freshEndpoints : ℕ → List ℕ → List Endpoint
-freshEndpoints clock randoms = map (λ r. record { trickle = fresh clock leastInterval r; next = 0 }) randoms
+freshEndpoints clock randoms = map (freshEndpoint clock) randoms
 
 -- a state with a table, no peers, and every endpoint started
 unfoldable pub started : ℕ → ℕ → List ℕ → List Entry → State

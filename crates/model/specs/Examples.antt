@@ -15,13 +15,14 @@ use Rattle.model.specs.Figures.{usualInterval, tableBytes, mostBytes, sn
 use Rattle.model.specs.Sequence.{older}
 use Rattle.model.specs.Table.{Entry, entryOf, statements, stamp, anew}
 use Rattle.model.specs.Reach.{inReach}
-use Rattle.model.specs.State.{State, Peer, peerTlv}
+use Rattle.model.specs.State.{State, Peer, Endpoint, peerTlv}
 use Rattle.model.specs.Messages.{requestNetworkTlv, requestNodeTlv, endpointTlv, networkTlv}
 use Rattle.model.specs.Decide.{Decision, receivedOf, decide}
-use Rattle.model.specs.Refusals.{Row, late, noSuchEndpoint, smallTable, smallRoom, long, noHousehold}
-use Rattle.model.specs.Begin.{begun}
+use Rattle.model.specs.Refusals.{Row, late, noSuchEndpoint, smallTable, smallRoom, long, noHousehold, noInterval}
+use Rattle.model.specs.Begin.{freshEndpoints, begun}
 use Rattle.model.specs.Receive.{Call, receive}
-use Rattle.model.specs.Tick.{silentFor, intervalIn, tick}
+use Rattle.model.specs.Tick.{silentFor, intervalIn, endpointEvent, tick}
+use Rattle.model.specs.KeepAlive.{keepAliveTlv, keepAlive}
 use Rattle.model.specs.Pay.{pay}
 use Rattle.model.specs.Totals.{sumOf, total}
 use Rattle.model.specs.Show.{refusalShow, shown}
@@ -84,6 +85,8 @@ edges =
     starts (long (replicate 4096 0)) (long (replicate 4097 0)) ∷
     starts (noHousehold 1) (noHousehold 0) ∷
     starts (noHousehold 9999) (noHousehold 10000) ∷
+    starts (noInterval 1) (noInterval 0) ∷
+    starts (noInterval 600000) (noInterval 600001) ∷
     []
 
 -- ---- a session in miniature: we are node 1, and node 2 sends from its endpoint 7 to our endpoint 1. The digests written here are
@@ -153,9 +156,13 @@ neighbour = record { node = 2; theirs = 7; ours = 1; contact = 0 }
 abbrev pub asked : List ℕ
 asked = endpointTlv 1 1 ++ requestNetworkTlv
 
--- a Keep-Alive Interval
-abbrev pub keepAlive : ℕ → ℕ → List ℕ
-keepAlive endpoint interval = encode 9 (big32 endpoint ++ big32 interval)
+-- an endpoint that last sent at 0, with a delay of 57, and whose Trickle state has nothing due for a while
+abbrev pub waiting : Endpoint
+waiting = record { trickle = record { start = 20000; point = 6400; interval = 12800; count = 1; spent = false }; next = 0; keep = usualInterval; quiet = 57 }
+
+-- after the choice of an interval for endpoint 2, and of the usual one after it
+abbrev pub chooser : State
+chooser = keepAlive 1 2 5000 noughts4 tableBytes first .state
 
 pub record Session : Type 0 where
   -- every refusal begins at its figure
@@ -189,8 +196,16 @@ pub record Session : Type 0 where
   pub elsewhere : kept (tickedAt 42000 2 second) ≡ (neighbour ∷ [], entryOf 1 1 (names 2 7 1) (anew 0) ∷ [])
   pub gone : kept (tickedAt 42000 1 second) ≡ ([], entryOf 1 2 [] (anew 42000) ∷ [])
   -- a peer's interval is that of the first Keep-Alive TLV for its endpoint, else the usual
-  pub interval : intervalIn (keepAlive 6 1000 ++ (keepAlive 7 3000 ++ keepAlive 7 5000)) 7 ≡ 3000
-  pub usual : intervalIn (keepAlive 6 1000) 7 ≡ 20000
+  pub interval : intervalIn (keepAliveTlv 6 1000 ++ (keepAliveTlv 7 3000 ++ keepAliveTlv 7 5000)) 7 ≡ 3000
+  pub usual : intervalIn (keepAliveTlv 6 1000) 7 ≡ 20000
+  -- a sending fixes the delay, the random number modulo 101; the keep-alive comes 20,000 ms after both, not before, and starts an interval as long as it was
+  pub delays : map (λ e. e .quiet) (freshEndpoints 0 (57 ∷ 150 ∷ 100 ∷ 101 ∷ [])) ≡ 57 ∷ 49 ∷ 100 ∷ 0 ∷ []
+  pub early : endpointEvent 20056 9000 waiting ≡ record { sends = false; next = waiting .trickle }
+  pub alive : endpointEvent 20057 9000 waiting ≡ record { sends = true; next = record { start = 20057; point = 9000; interval = 12800; count = 0; spent = false } }
+  -- a chosen interval is published once, as a TLV that goes with the usual one
+  pub chosen : chooser .table ≡ entryOf 1 1 (keepAliveTlv 2 5000) (anew 1) ∷ []
+  pub unchanged : keepAlive 2 2 5000 noughts4 tableBytes chooser .state .table ≡ chooser .table
+  pub unchosen : keepAlive 2 2 20000 noughts4 tableBytes chooser .state .table ≡ entryOf 1 2 [] (anew 2) ∷ []
   -- at an age of 4,294,901,760 we publish again, and not before
   pub old : tickedAt 4294901759 1 first .table ≡ entryOf 1 0 [] (anew 0) ∷ []
   pub renewed : tickedAt 4294901760 1 first .table ≡ entryOf 1 1 [] (anew 4294901760) ∷ []

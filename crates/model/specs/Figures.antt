@@ -1,6 +1,6 @@
--- Every figure of document 01, once (Figures; In reach; Ticks). Assumes nothing.
+-- Every figure of documents 01 and 02, once (Figures; In reach; Ticks; Keep quiet links alive). Assumes nothing.
 use Rattle.base.specs.Bytes.{mostU32}
-use Prim.Native.Nat.{ℕ, _*_}
+use Prim.Native.Nat.{ℕ, _*_, _/_}
 
 -- nodes with our own; bytes of node data that we accept and hold of each, and that we let our own come to by publishing more
 abbrev pub mostNodes : ℕ
@@ -61,14 +61,26 @@ refreshAge = 4294901760
 abbrev pub mostAge : ℕ
 mostAge = mostU32
 
--- the interval of a peer that publishes no Keep-Alive TLV for its endpoint
+-- keep-alives: the interval of an endpoint that publishes no Keep-Alive TLV, the shortest and the longest that can be chosen, and the longest delay, Imin/2
 abbrev pub usualInterval : ℕ
 usualInterval = 20000
+
+abbrev pub leastKeepAlive : ℕ
+leastKeepAlive = 1
+
+abbrev pub mostKeepAlive : ℕ
+mostKeepAlive = 600000
+
+abbrev pub mostDelay : ℕ
+mostDelay = leastInterval / 2
 
 -- what a reclaimed sequence number gains
 abbrev pub reclaimStep : ℕ
 reclaimStep = 1000
 
--- bytes of a Peer TLV
+-- bytes of a Peer TLV, and of a Keep-Alive TLV
 abbrev pub peerBytes : ℕ
 peerBytes = 16
+
+abbrev pub keepAliveBytes : ℕ
+keepAliveBytes = 12

@@ -9,11 +9,12 @@ use Rattle.base.specs.Lists.{any, isSome, In, All}
 use Rattle.base.specs.Sorted.{Ascending}
 use Rattle.wire.specs.Row.{typeOf, tlvs}
 use Rattle.wire.specs.Order.{good}
-use Rattle.model.specs.Figures.{mostNodes, dataLimit, mostEndpoints, mostPeers, lastReading, mostCount, mostAge, requestGap}
+use Rattle.model.specs.Figures.{mostNodes, dataLimit, mostEndpoints, mostPeers, lastReading, mostCount, mostAge, requestGap, leastKeepAlive, mostKeepAlive, mostDelay}
 use Rattle.model.specs.Sequence.{circle}
 use Rattle.model.specs.Table.{Entry, idOf, look}
 use Rattle.model.specs.Digest.{networkDigest}
 use Rattle.model.specs.Trickle.{Trickle}
+use Rattle.model.specs.KeepAlive.{keepAlives}
 use Rattle.model.specs.Snapshot.{Snapshot}
 use Rattle.model.specs.State.{State, Peer, Endpoint, ownData, peerTlv, isPeer}
 
@@ -50,10 +51,14 @@ pub record TrickleFits (last : ℕ) (t : Trickle) : Type 0 where
   pub count : t .count ≤ mostCount
   pub start : t .start ≤ last
 
--- a request went out no later than the last reading, if one did
+-- a request went out no later than the last reading, if one did; so did the last sending, whose delay is at most 100 ms; the interval is one that can be
+-- chosen
 pub record EndpointFits (last : ℕ) (e : Endpoint) : Type 0 where
   pub trickle : TrickleFits last (e .trickle)
   pub next : e .next ≤ last + requestGap
+  pub least : leastKeepAlive ≤ e .keep
+  pub most : e .keep ≤ mostKeepAlive
+  pub quiet : e .quiet ≤ last + mostDelay
 
 -- ---- the parts, at a reading
 
@@ -68,9 +73,20 @@ pub record PeersFit (own clock : ℕ) (ps : List Peer) : Type 0 where
   pub once : Once ps
   pub all : All (PeerFits own clock) ps
 
--- the type 8 TLVs of the data d are exactly the peers' Peer TLVs
+-- the TLVs of type k of the data d are exactly these
+abbrev pub Only : ℕ → List ℕ → List (List ℕ) → Type 0
+Only k d ts = (t : List ℕ) → (In t (tlvs d) × (typeOf t ≡ k)) ↔ In t ts
+
+-- type 8: the peers' Peer TLVs
 abbrev pub Linked : List ℕ → List Peer → Type 0
-Linked d ps = (t : List ℕ) → (In t (tlvs d) × (typeOf t ≡ 8)) ↔ In t (map peerTlv ps)
+Linked d ps = Only 8 d (map peerTlv ps)
+
+-- type 9: the Keep-Alive TLVs of the endpoints whose interval isn't the usual one
+abbrev pub intervalsOf : List Endpoint → List ℕ
+intervalsOf es = map (λ (e : Endpoint). e .keep) es
+
+abbrev pub Chosen : List ℕ → List Endpoint → Type 0
+Chosen d es = Only 9 d (keepAlives 1 (intervalsOf es))
 
 pub record EndpointsFit (clock : ℕ) (es : List Endpoint) : Type 0 where
   pub four : length es ≡ mostEndpoints
@@ -82,6 +98,7 @@ pub record Midway (clock : ℕ) (s : State) : Type 0 where
   pub table : TableFits (s .own) clock (s .table)
   pub peers : PeersFit (s .own) clock (s .peers)
   pub links : Linked (ownData s) (s .peers)
+  pub choices : Chosen (ownData s) (s .endpoints)
   pub endpoints : EndpointsFit clock (s .endpoints)
 
 -- what holds of it between calls: the same at the last reading, and the stored digest is the network digest at that reading

@@ -1,4 +1,4 @@
--- Document 01 as definitions. Read in this order; each file names the section that it comes from.
+-- Documents 01 and 02 as definitions. Read in this order; each file names the section that it comes from.
 pub mod Figures
 pub mod Sequence
 pub mod Table
@@ -14,6 +14,7 @@ pub mod Refusals
 pub mod Begin
 pub mod Receive
 pub mod Tick
+pub mod KeepAlive
 pub mod Pay
 pub mod Totals
 pub mod Show

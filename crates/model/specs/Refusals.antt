@@ -1,4 +1,4 @@
--- The numbers a call may answer, and when each applies (document 01, Numbers a call may answer). Assumes nothing.
+-- The numbers a call may answer, and when each applies (document 01, Numbers a call may answer; document 02, Keep quiet links alive). Assumes nothing.
 use mathlib.Core.Bool.{Bool, not, cond, _&&_, _||_}
 use mathlib.Core.List.{List, [], _∷_}
 use Prim.Native.Nat.{ℕ, _+_}
@@ -8,7 +8,7 @@ use Rattle.base.specs.Lists.{isSome}
 use Rattle.wire.specs.Row.{isRow, tlvs}
 use Rattle.wire.specs.Order.{among}
 use Rattle.wire.specs.Payment.{Payment, mostHousehold, paymentTlv}
-use Rattle.model.specs.Figures.{mostEndpoints, lastReading, tableBytes, mostBytes, publishLimit}
+use Rattle.model.specs.Figures.{mostEndpoints, lastReading, tableBytes, mostBytes, publishLimit, leastKeepAlive, mostKeepAlive}
 use Rattle.model.specs.Table.{look}
 use Rattle.model.specs.State.{State, ownData}
 
@@ -62,3 +62,7 @@ full p s = record { number = 9; applies = ltb publishLimit (length (ownData s) +
 -- 10: "no such box in the table"
 abbrev pub noSuchNode : ℕ → State → Row
 noSuchNode n s = record { number = 10; applies = not (isSome (look n (s .table))) }
+
+-- 12: "an interval of 0 or above 600,000"
+abbrev pub noInterval : ℕ → Row
+noInterval n = record { number = 12; applies = not (leb leastKeepAlive n && leb n mostKeepAlive) }

@@ -1,5 +1,5 @@
--- The snapshot: saving, loading and resuming (document 01, the book). Assumes nothing.
-use mathlib.Core.Bool.{not, cond, _&&_}
+-- The snapshot: saving, loading and resuming (document 01, the book; document 02, Keep quiet links alive). Assumes nothing.
+use mathlib.Core.Bool.{Bool, not, cond, _&&_, _||_}
 use mathlib.Core.List.{List, [], _∷_, _++_, map}
 use mathlib.Core.Option.{Option, none, some}
 use Prim.Native.Nat.{ℕ, zero, suc, _+_, min}
@@ -71,10 +71,14 @@ load clock s =
     (reads mostU32 a (λ own b. reads mostNodes b (λ n c. cond (leb 1 n)
     (orElse (loadEntries clock n 0 c) none (holdsOwn own)) none))) none)
 
--- ---- resuming: "drops every type 8 TLV of ours and all peers, has asked nothing yet, and republishes once"
+-- ---- resuming: "drops every type 8 TLV of ours and all peers, has asked nothing yet, and republishes once"; "drops our type 9 TLVs"
+
+-- what node data says of its node's links: types 8 and 9
+abbrev pub ofLinks : List ℕ → Bool
+ofLinks t = eqb (typeOf t) 8 || eqb (typeOf t) 9
 
 abbrev pub withoutLinks : List ℕ → List ℕ
-withoutLinks d = joinAll (keep (λ t. not (eqb (typeOf t) 8)) (tlvs d))
+withoutLinks d = joinAll (keep (λ t. not (ofLinks t)) (tlvs d))
 
 unfoldable pub republished : ℕ → Snapshot → List Entry
 republished clock b =

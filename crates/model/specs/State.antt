@@ -1,13 +1,15 @@
--- The state that a call gets and leaves, and publishing (document 01, Numbers a call may answer; Ticks). Assumes nothing.
+-- The state that a call gets and leaves, and publishing (document 01, Numbers a call may answer; Ticks; document 02, Keep quiet links alive). Assumes
+-- nothing.
 use mathlib.Core.Bool.{Bool, true, cond, _&&_}
 use mathlib.Core.List.{List, [], _∷_, _++_}
-use Prim.Native.Nat.{ℕ, pred}
+use Prim.Native.Nat.{ℕ, pred, _+_, _%_}
 use lib.ListN.{getD, set}
 use lib.Dec.{eqb}
 use Rattle.base.specs.Lists.{joinAll, orElse}
 use Rattle.base.specs.Bytes.{big32, same}
 use Rattle.wire.specs.Row.{encode, tlvs}
 use Rattle.wire.specs.Order.{place}
+use Rattle.model.specs.Figures.{usualInterval, mostDelay}
 use Rattle.model.specs.Sequence.{advance}
 use Rattle.model.specs.Table.{Entry, entryOf, look, put, anew}
 use Rattle.model.specs.Digest.{networkDigest}
@@ -20,10 +22,13 @@ pub record Peer : Type 0 where
   pub ours : ℕ
   pub contact : ℕ
 
--- one of our endpoints: its Trickle state, and the reading from which the next request for network state may go out
+-- one of our endpoints: its Trickle state, the reading from which the next request for network state may go out, its keep-alive interval, and the
+-- reading of its last sending with the delay fixed then
 pub record Endpoint : Type 0 where
   pub trickle : Trickle
   pub next : ℕ
+  pub keep : ℕ
+  pub quiet : ℕ
 
 -- `last` is the last accepted reading; `digest` the network digest at the end of the last state-changing call
 pub record State : Type 0 where
@@ -44,14 +49,25 @@ abbrev pub withEndpoints : List Endpoint → State → State
 withEndpoints e s = record { own = s .own; last = s .last; table = s .table; peers = s .peers; endpoints = e; digest = s .digest }
 
 abbrev pub withTrickle : Trickle → Endpoint → Endpoint
-withTrickle t e = record { trickle = t; next = e .next }
+withTrickle t e = record { trickle = t; next = e .next; keep = e .keep; quiet = e .quiet }
 
 abbrev pub withNext : ℕ → Endpoint → Endpoint
-withNext n e = record { trickle = e .trickle; next = n }
+withNext n e = record { trickle = e .trickle; next = n; keep = e .keep; quiet = e .quiet }
+
+abbrev pub withKeep : ℕ → Endpoint → Endpoint
+withKeep n e = record { trickle = e .trickle; next = e .next; keep = n; quiet = e .quiet }
+
+abbrev pub withQuiet : ℕ → Endpoint → Endpoint
+withQuiet n e = record { trickle = e .trickle; next = e .next; keep = e .keep; quiet = n }
+
+-- "a random delay of 0 to Imin/2 (random mod 101, fixed at the last sending ..)"
+abbrev pub quietFrom : ℕ → ℕ → ℕ
+quietFrom clock random = clock + random % (mostDelay + 1)
 
 -- endpoint i, 1 to 4, of the state; none stands elsewhere
 abbrev pub noEndpoint : Endpoint
-noEndpoint = record { trickle = record { start = 0; point = 0; interval = 0; count = 0; spent = true }; next = 0 }
+noEndpoint =
+    record { trickle = record { start = 0; point = 0; interval = 0; count = 0; spent = true }; next = 0; keep = usualInterval; quiet = 0 }
 
 abbrev pub endpointAt : ℕ → State → Endpoint
 endpointAt i s = getD (s .endpoints) (pred i) noEndpoint

@@ -17,7 +17,7 @@ use Rattle.base.specs.Sorted.{Ascending}
 use Rattle.wire.specs.Row.{row, typeOf, valueOf, tlvs}
 use Rattle.wire.specs.Payment.{Payment, Payable, mostHousehold, paymentTlv, readPayment}
 use Rattle.sha256.specs.Sha256.{hash16}
-use Rattle.model.specs.Figures.{mostNodes, mostEndpoints, mostBytes, snapshotBytes, mostAge, lastReading}
+use Rattle.model.specs.Figures.{mostNodes, mostEndpoints, mostBytes, snapshotBytes, mostAge}
 use Rattle.model.specs.Sequence.{circle}
 use Rattle.model.specs.Table.{Entry, Statement, idOf, entryOf, ageAt, look, put, stamp}
 use Rattle.model.specs.Reach.{Vertex, vertices, levels, inReach, reached}
@@ -28,10 +28,11 @@ use Rattle.model.specs.State.{State, Endpoint, endpointAt, ownData, sett
 use Rattle.model.specs.Messages.{endpointTlv, networkTlv, shortState, wholeState}
 use Rattle.model.specs.Decide.{Received, Decision, receivedOf, decide}
 use Rattle.model.specs.Handle.{Context, Sender, Work, piece, reply, askNetwork, roomForPeer, greet, carryOut, oneTlv, allTlvs, onNetwork, digestNow}
-use Rattle.model.specs.Refusals.{Row, firstOf, late, back, noSuchEndpoint, smallTable, smallRoom, long, noRow, noHousehold, paidAlready, full, noSuchNode}
+use Rattle.model.specs.Refusals.{Row, firstOf, late, back, noSuchEndpoint, smallTable, smallRoom, long, noRow, noHousehold, paidAlready, full, noInterval, noSuchNode}
 use Rattle.model.specs.Begin.{begun, begin, blank}
 use Rattle.model.specs.Receive.{Call, contextOf, startOf, receive}
-use Rattle.model.specs.Tick.{tick, ticked}
+use Rattle.model.specs.Tick.{Sent, tick, ticked}
+use Rattle.model.specs.KeepAlive.{noRoom, keepAlive}
 use Rattle.model.specs.Pay.{pay, purge}
 use Rattle.model.specs.Totals.{isPayment, paymentsOf, totalOf, sumOf, paymentsIn, readable, unreadable, reachable, refusalTotal, total, refusalSum, sum}
 use Rattle.model.specs.Show.{marks, refusalShow, shown}
@@ -66,6 +67,7 @@ pub record InvariantKept : Type 0 where
   pub resumes : (clock : ℕ) (bytes rs : List ℕ) (table : ℕ) (s : State) → length rs ≡ mostEndpoints → Valid s → Valid (resume clock bytes rs table s .state)
   pub receives : (c : Call) (s : State) → Bytes (c .datagram) → Valid s → Valid (receive c s .state)
   pub ticks : (clock i : ℕ) (rs : List ℕ) (table room : ℕ) (s : State) → Valid s → Valid (tick clock i rs table room s .state)
+  pub chooses : (clock i n : ℕ) (rs : List ℕ) (table : ℕ) (s : State) → Valid s → Valid (keepAlive clock i n rs table s .state)
   pub pays : (clock : ℕ) (p : Payment) (rs : List ℕ) (table : ℕ) (s : State) → Valid s → Valid (pay clock p rs table s .state)
   pub purges : (clock : ℕ) (rs : List ℕ) (table : ℕ) (s : State) → Valid s → Valid (purge clock rs table s .state)
 
@@ -81,11 +83,19 @@ pub record Snapshots : Type 0 where
   pub once : (clock : ℕ) (bytes : List ℕ) (b : Snapshot) → Bytes bytes → load clock bytes ≡ some b → bytes ≡ saved (b .own) clock (b .entries)
   pub fits : (clock : ℕ) (bytes : List ℕ) (b : Snapshot) → load clock bytes ≡ some b → SnapshotFits clock b
 
--- 6. After two ticks at one reading nothing further is due on that endpoint: a third sends nothing and changes nothing.
-pub record TwoTicks : Type 0 where
-  pub rest : (s : State) (clock i : ℕ) (p q r : List ℕ) → Valid s → s .last ≤ clock → clock ≤ lastReading → 1 ≤ i → i ≤ mostEndpoints →
-      let b : State = ticked clock i q (ticked clock i p s .state) .state in
-      ticked clock i r b ≡ record { number = 0; state = b; bytes = [] }
+-- 6. After three ticks at one reading nothing further is due on that endpoint: a fourth sends nothing and changes nothing. At most one of the three
+-- sends.
+abbrev pub OneAtMost : List ℕ → List ℕ → List ℕ → Type 0
+OneAtMost a b c = ((a ≡ []) × (b ≡ [])) ⊎ (((a ≡ []) × (c ≡ [])) ⊎ ((b ≡ []) × (c ≡ [])))
+
+pub record ThreeTicks : Type 0 where
+  pub rest : (s : State) (clock i : ℕ) (p q r o : List ℕ) → Valid s → 1 ≤ i → i ≤ mostEndpoints →
+      let c : State = ticked clock i r (ticked clock i q (ticked clock i p s .state) .state) .state in
+      ticked clock i o c ≡ record { number = 0; state = c; bytes = [] }
+  pub once : (s : State) (clock i : ℕ) (p q r : List ℕ) → Valid s → 1 ≤ i → i ≤ mostEndpoints →
+      let a : Sent = ticked clock i p s in
+      let b : Sent = ticked clock i q (a .state) in
+      OneAtMost (a .bytes) (b .bytes) (ticked clock i r (b .state) .bytes)
 
 -- 7. An accepted call answers with the total, or the sum, and the count of the reachable nodes. A total is the sum over all their TLVs of what each
 -- has for the household: the amount of a readable payment, else nothing. The count is of the unreadable payments among these TLVs. The sum over all
@@ -141,6 +151,7 @@ pub record RefusalsChangeNothing : Type 0 where
       → receive c s ≡ record { number = receive c s .number; state = s; bytes = []; omitted = 0; dropped = 0 }
   pub ticks : (clock i : ℕ) (rs : List ℕ) (table room : ℕ) (s : State) → ¬ (tick clock i rs table room s .number ≡ 0)
       → tick clock i rs table room s ≡ record { number = tick clock i rs table room s .number; state = s; bytes = [] }
+  pub chooses : (clock i n : ℕ) (rs : List ℕ) (table : ℕ) (s : State) → ¬ (keepAlive clock i n rs table s .number ≡ 0) → keepAlive clock i n rs table s .state ≡ s
   pub pays : (clock : ℕ) (p : Payment) (rs : List ℕ) (table : ℕ) (s : State) → ¬ (pay clock p rs table s .number ≡ 0) → pay clock p rs table s .state ≡ s
   pub purges : (clock : ℕ) (rs : List ℕ) (table : ℕ) (s : State) → ¬ (purge clock rs table s .number ≡ 0) → purge clock rs table s .state ≡ s
   pub totals : (clock h table : ℕ) (s : State) → ¬ (total clock h table s .number ≡ 0)
@@ -168,6 +179,8 @@ pub record RefusalsExact : Type 0 where
       (late (c .clock) ∷ back (c .clock) s ∷ noSuchEndpoint (c .endpoint) ∷ smallRoom (c .table) (c .room) mostBytes ∷ long (c .datagram) ∷ noRow (c .datagram) ∷ [])
   pub ticks : (clock i : ℕ) (rs : List ℕ) (table room : ℕ) (s : State)
       → Exact (tick clock i rs table room s .number) (late clock ∷ back clock s ∷ noSuchEndpoint i ∷ smallRoom table room mostBytes ∷ [])
+  pub chooses : (clock i n : ℕ) (rs : List ℕ) (table : ℕ) (s : State)
+      → Exact (keepAlive clock i n rs table s .number) (late clock ∷ back clock s ∷ noSuchEndpoint i ∷ noInterval n ∷ smallTable table ∷ noRoom i n s ∷ [])
   pub pays : (clock : ℕ) (p : Payment) (rs : List ℕ) (table : ℕ) (s : State)
       → Exact (pay clock p rs table s .number) (late clock ∷ back clock s ∷ smallTable table ∷ noHousehold (p .household) ∷ paidAlready p s ∷ full p s ∷ [])
   pub purges : (clock : ℕ) (rs : List ℕ) (table : ℕ) (s : State) → Exact (purge clock rs table s .number) (late clock ∷ back clock s ∷ smallTable table ∷ [])
@@ -199,7 +212,7 @@ pub record CountsExact : Type 0 where
       → carryOut c Decision.dropped w ≡ record { state = w .state; sender = w .sender; out = w .out; omitted = w .omitted; dropped = w .dropped + 1 }
   pub full : (clock : ℕ) (t : List Entry) (r : Received) → (decide clock t r ≡ Decision.dropped) ↔ ((look (r .node) t ≡ none) × (mostNodes ≤ length t))
 
--- Our own payments stay: no datagram, tick or purge takes one away or brings one, and no refused payment; an accepted one joins them. A node that begins
+-- Our own payments stay: no datagram, tick, choice or purge takes one away or brings one, and no refused payment; an accepted one joins them. A node that begins
 -- has none, and one that resumes has those of its snapshot.
 abbrev pub ownPayments : State → List (List ℕ)
 ownPayments s = paymentsOf (ownData s)
@@ -207,6 +220,7 @@ ownPayments s = paymentsOf (ownData s)
 pub record OwnPaymentsStay : Type 0 where
   pub receives : (c : Call) (s : State) → ownPayments (receive c s .state) ≡ ownPayments s
   pub ticks : (clock i : ℕ) (rs : List ℕ) (table room : ℕ) (s : State) → ownPayments (tick clock i rs table room s .state) ≡ ownPayments s
+  pub chooses : (clock i n : ℕ) (rs : List ℕ) (table : ℕ) (s : State) → ownPayments (keepAlive clock i n rs table s .state) ≡ ownPayments s
   pub purges : (clock : ℕ) (rs : List ℕ) (table : ℕ) (s : State) → Valid s → ownPayments (purge clock rs table s .state) ≡ ownPayments s
   pub pays : (clock : ℕ) (p : Payment) (rs : List ℕ) (table : ℕ) (s : State) → pay clock p rs table s .number ≡ 0
       → (t : List ℕ) → In t (ownPayments (pay clock p rs table s .state)) ↔ (In t (ownPayments s) ⊎ (t ≡ paymentTlv p))

@@ -1,7 +1,8 @@
--- A tick of one endpoint: silent peers go, then at most one Trickle event (document 01, Ticks; RFC 7787, 6.1.5). Assumes nothing.
+-- A tick of one endpoint: silent peers go, then at most one event (document 01, Ticks; document 02, Keep quiet links alive; RFC 7787, 6.1.2 and 6.1.5).
+-- Assumes nothing.
 use mathlib.Core.Bool.{Bool, true, false, not, cond, _&&_, _||_}
 use mathlib.Core.List.{List, [], _∷_, _++_}
-use Prim.Native.Nat.{ℕ, _-_, _*_}
+use Prim.Native.Nat.{ℕ, _+_, _-_, _*_}
 use lib.ListN.{length}
 use lib.Dec.{eqb, leb}
 use Rattle.base.specs.Lists.{any, keep, first, joinAll, orElse}
@@ -9,8 +10,8 @@ use Rattle.base.specs.Bytes.{u32At, same}
 use Rattle.wire.specs.Row.{typeOf, valueOf, tlvs}
 use Rattle.model.specs.Figures.{usualInterval, refreshAge, mostBytes}
 use Rattle.model.specs.Table.{Entry, ageAt, look}
-use Rattle.model.specs.Trickle.{Event, event}
-use Rattle.model.specs.State.{State, Peer, withPeers, endpointAt, randomAt, withEndpoint, withTrickle, ownEntry, ownData, publish, peerTlv, settle}
+use Rattle.model.specs.Trickle.{Event, fresh, isIdle, event}
+use Rattle.model.specs.State.{State, Peer, Endpoint, withPeers, endpointAt, randomAt, withEndpoint, withTrickle, withQuiet, quietFrom, ownEntry, ownData, publish, peerTlv, settle}
 use Rattle.model.specs.Messages.{endpointTlv, networkTlv}
 use Rattle.model.specs.Refusals.{firstOf, late, back, noSuchEndpoint, smallRoom}
 
@@ -59,14 +60,27 @@ pub record Sent : Type 0 where
 abbrev pub announcement : ℕ → State → List ℕ
 announcement endpoint s = endpointTlv (s .own) endpoint ++ networkTlv (s .digest)
 
-abbrev pub withEvent : ℕ → State → Event → Sent
-withEvent i s e =
-    record { number = 0; state = withEndpoint i (withTrickle (e .next) (endpointAt i s)) s; bytes = cond (e .sends) (announcement i s) [] }
+-- "when an endpoint has multicast no Network State TLV for its interval, it sends one after a random delay"
+abbrev pub keepAliveDue : ℕ → Endpoint → Bool
+keepAliveDue clock e = leb (e .quiet + e .keep) clock
+
+-- the "third kind of event after the two", so only where neither is due; "and starts a new Trickle interval": I stays
+unfoldable pub endpointEvent : ℕ → ℕ → Endpoint → Event
+endpointEvent clock random e =
+    cond (isIdle clock (e .trickle) && keepAliveDue clock e) (record { sends = true; next = fresh clock (e .trickle .interval) random }) (event clock random (e .trickle))
+
+-- the endpoint after it: what is sent fixes the next delay
+abbrev pub afterEvent : ℕ → ℕ → Event → Endpoint → Endpoint
+afterEvent clock random v e = withQuiet (cond (v .sends) (quietFrom clock random) (e .quiet)) (withTrickle (v .next) e)
+
+abbrev pub withEvent : ℕ → ℕ → ℕ → State → Event → Sent
+withEvent clock random i s v =
+    record { number = 0; state = withEndpoint i (afterEvent clock random v (endpointAt i s)) s; bytes = cond (v .sends) (announcement i s) [] }
 
 unfoldable pub ticked : ℕ → ℕ → List ℕ → State → Sent
 ticked clock i randoms s =
     let r : State = settle clock randoms (dropSilent clock i s) in
-    withEvent i r (event clock (randomAt i randoms) (endpointAt i r .trickle))
+    withEvent clock (randomAt i randoms) i r (endpointEvent clock (randomAt i randoms) (endpointAt i r))
 
 -- `table` and `room` are the lengths of the lent table memory and of the room for what is sent
 abbrev pub refusalTick : ℕ → ℕ → ℕ → ℕ → State → ℕ

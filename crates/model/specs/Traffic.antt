@@ -1,4 +1,4 @@
--- Demand 3 over the traffic that there is: datagrams with any TLVs, ticks and payments, in whatever order. What is heard is then not one statement for
+-- Demand 3 over the traffic that there is: datagrams with any TLVs, ticks, choices and payments, in whatever order. What is heard is then not one statement for
 -- each call, and our own node publishes in between; what holds is said of the other nodes. Assumes nothing.
 use mathlib.Core.Path.{_≡_}
 use mathlib.Core.Bool.{true, not, cond, _&&_}
@@ -21,6 +21,7 @@ use Rattle.model.specs.Decide.{Received, receivedOf}
 use Rattle.model.specs.Handle.{Context, Work, oneTlv}
 use Rattle.model.specs.Receive.{Call, aboutOther, contextOf, startOf, receive}
 use Rattle.model.specs.Tick.{tick}
+use Rattle.model.specs.KeepAlive.{keepAlive}
 use Rattle.model.specs.Pay.{pay}
 use Rattle.model.specs.Invariant.{Valid}
 use Rattle.model.specs.Delivery.{saying, statementIn, accepted, distinct, Close, Holds}
@@ -51,16 +52,19 @@ heardAll c (t ∷ ts) w = heardIn (w .state) t ++ heardAll c ts (oneTlv c t w)
 pub data Turn : Type 0 where
   receives : Call → Turn
   ticks : (clock endpoint : ℕ) → List ℕ → (table room : ℕ) → Turn
+  chooses : (clock endpoint interval : ℕ) → List ℕ → (table : ℕ) → Turn
   pays : ℕ → Payment → List ℕ → ℕ → Turn
 
 abbrev pub turned : State → Turn → State
 turned s (Turn.receives c) = receive c s .state
 turned s (Turn.ticks clock i rs table room) = tick clock i rs table room s .state
+turned s (Turn.chooses clock i n rs table) = keepAlive clock i n rs table s .state
 turned s (Turn.pays clock p rs table) = pay clock p rs table s .state
 
 unfoldable pub heardBy : State → Turn → List Statement
 heardBy s (Turn.receives c) = cond (accepted s c) (heardAll (contextOf s c) (tlvs (c .datagram)) (startOf s)) []
 heardBy s (Turn.ticks clock i rs table room) = []
+heardBy s (Turn.chooses clock i n rs table) = []
 heardBy s (Turn.pays clock p rs table) = []
 
 -- "Each call gets what the last one left"

@@ -40,6 +40,10 @@ pointDue clock t = not (t .spent) && leb (t .start + t .point) clock
 abbrev pub intervalOver : ℕ → Trickle → Bool
 intervalOver clock t = leb (t .start + t .interval) clock
 
+-- neither is due
+abbrev pub isIdle : ℕ → Trickle → Bool
+isIdle clock t = not (pointDue clock t) && not (intervalOver clock t)
+
 unfoldable pub event : ℕ → ℕ → Trickle → Event
 event clock random t =
     cond (pointDue clock t)

@@ -1,4 +1,4 @@
-// Every figure of document 01 that code uses, once: in the order of specs/Figures.antt and by its names. Hosts get them with these comments.
+// Every figure of documents 01 and 02 that code uses, once: in the order of specs/Figures.antt and by its names. Hosts get them with these comments.
 
 // Nodes held, with our own.
 pub const MOST_NODES: usize = 32;
@@ -51,14 +51,26 @@ pub const REFRESH_AGE: u64 = 4294901760;
 // The largest age that is sent or saved.
 pub const MOST_AGE: u64 = 4294967295;
 
-// The interval of a peer that publishes no Keep-Alive TLV for its endpoint.
-pub const USUAL_INTERVAL: u64 = 20000;
+// The keep-alive interval, in milliseconds, of an endpoint that publishes no Keep-Alive TLV: a peer's, and ours at first.
+pub const USUAL_INTERVAL: u32 = 20000;
+
+// The shortest keep-alive interval that can be chosen.
+pub const LEAST_KEEP_ALIVE: u32 = 1;
+
+// The longest keep-alive interval that can be chosen.
+pub const MOST_KEEP_ALIVE: u32 = 600000;
+
+// The longest delay of a keep-alive, in milliseconds.
+pub const MOST_DELAY: u64 = LEAST_INTERVAL / 2;
 
 // What a reclaimed sequence number gains.
 pub const RECLAIM_STEP: u32 = 1000;
 
 // Bytes of a Peer TLV.
 pub const PEER_BYTES: usize = 16;
+
+// Bytes of a Keep-Alive TLV.
+pub const KEEP_ALIVE_BYTES: usize = 12;
 
 // The definition of households is wire's, which takes no figures from here.
 

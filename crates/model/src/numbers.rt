@@ -1,4 +1,4 @@
-// Every number that a refused call answers, once: document 01's, whose words stand at the definitions in specs/Refusals.antt and specs/Snapshot.antt.
+// Every number that a refused call answers, once: those of documents 01 and 02, whose words stand at their definitions in specs/.
 pub const CLOCK_TOO_HIGH: u32 = 1;
 
 pub const CLOCK_BACK: u32 = 2;
@@ -20,3 +20,5 @@ pub const DATA_FULL: u32 = 9;
 pub const NO_SUCH_NODE: u32 = 10;
 
 pub const NOT_A_SNAPSHOT: u32 = 11;
+
+pub const NO_SUCH_INTERVAL: u32 = 12;

@@ -3,6 +3,7 @@ pub mod Contacts
 pub mod Parts
 pub mod Own
 pub mod Moves
+pub mod Editing
 pub mod Settling
 pub mod Peerings
 pub mod Stripping

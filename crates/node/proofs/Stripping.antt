@@ -25,7 +25,7 @@ use Rattle.model.specs.Table.{entryOf, anew}
 use Rattle.model.specs.State.{State as ModelState, Peer as ModelPeer, ownSeq, ownData, peerTlv, publish, publishAs, withPeers}
 use Rattle.model.specs.Tick.{withoutPeers}
 use Rattle.model.proofs.KeptData.{names}
-use Rattle.table.specs.View.{metaAt, dataOf, Arranged, Kept, Read, Stands, Stored}
+use Rattle.table.specs.View.{metaAt, Arranged, Kept, Read, Stands, Stored}
 use Rattle.table.specs.declared.Table.{Table}
 use Rattle.table.specs.declared.Entry.{Entry as Meta}
 use Rattle.node.specs.View.{peerOf, peersOf, stateOf, PeersRep, Rep, Published}
@@ -34,8 +34,9 @@ use Rattle.node.specs.declared.peers.Peer.{Peer}
 use Rattle.node.specs.declared.peers.Peers.{Peers}
 use Rattle.node.proofs.Contacts.{noPeer, peer-at, peers-length}
 use Rattle.node.proofs.Parts.{state-peers, putTable, putPeers}
-use Rattle.node.proofs.Own.{own-seq, own-data}
-use Rattle.node.proofs.Moves.{published-then, stored-published, peers-moved}
+use Rattle.node.proofs.Own.{own-seq}
+use Rattle.node.proofs.Moves.{published-then, peers-moved}
+use Rattle.node.proofs.Editing.{own-part, slot-room, slot-asks, slot-published}
 
 -- ---- the search for a marked peer whose Peer TLV this is
 
@@ -214,31 +215,22 @@ module _ (s : State) (m : List ℕ) (k : Rep s m) (i : ℕ) (h : Stands (s .tabl
   abbrev going : List ModelPeer
   going = keepBy marks (peersOf (s .peers))
 
-  own-part : part m (start) (e .len) ≡ ownData (stateOf s m)
-  own-part = ap (λ (x : ℕ). part m x (e .len)) z ∙ ap (dataOf m) (o .same) ∙ sym (own-data s m i k h)
+  abbrev ours : List ℕ
+  ours = part m start (e .len)
 
-  pub strip-asks : (start + e .len ≤ length m) × (isRow (part m (start) (e .len)) ≡ true)
-  strip-asks = (omega (arith, o .low, o .short, k .table .room), rw own-part (good-row dataLimit (ownData (stateOf s m)) g))
+  ours-is : ours ≡ ownData (stateOf s m)
+  ours-is = own-part s m k i h e o start z
 
-  left-fits : length (withoutPeers going (part m (start) (e .len))) ≤ dataLimit
+  pub strip-asks : (start + e .len ≤ length m) × (isRow ours ≡ true)
+  strip-asks = (omega (arith, slot-room s m k i h e o start z, o .short), rw ours-is (good-row dataLimit (ownData (stateOf s m)) g))
+
+  left-fits : length (withoutPeers going ours) ≤ dataLimit
   unfolding withoutPeers
-  left-fits =
-      good-fits dataLimit (withoutPeers going (part m (start) (e .len)))
-      (keep-good (λ t. not (names going t)) dataLimit (part m (start) (e .len)) (rw own-part g))
+  left-fits = good-fits dataLimit (withoutPeers going ours) (keep-good (λ t. not (names going t)) dataLimit ours (rw ours-is g))
 
-  module _ (m′ : List ℕ) (n : ℕ)
-      (w : (m′ ≡ written m (start) (withoutPeers going (part m (start) (e .len)))) × (n ≡ length (withoutPeers going (part m (start) (e .len))))) where
-    pub slot-asks : Arranged (s .table) × (Stands (s .table) (s .own) i × ((n ≤ dataLimit) × (tableBytes ≤ length m′)))
-    slot-asks = (
-      k .table .arranged,
-      (
-        h,
-        (
-          omega (arith, left-fits, w .1),
-          rw (w .0) (rw (written-length m (withoutPeers going (part m (start) (e .len))) (start) (omega (arith, o .low, left-fits, k .table .room))) (k .table .room)),
-        ),
-      ),
-    )
+  module _ (m′ : List ℕ) (n : ℕ) (w : (m′ ≡ written m start (withoutPeers going ours)) × (n ≡ length (withoutPeers going ours))) where
+    pub stripped-asks : Arranged (s .table) × (Stands (s .table) (s .own) i × ((n ≤ dataLimit) × (tableBytes ≤ length m′)))
+    stripped-asks = slot-asks s m k i h e o start z (withoutPeers going ours) m′ n left-fits (w .0) (w .1)
 
     pub peers-dropped : (clock seq : ℕ) (t : Table) (p : Peers) → seq ≡ advance (e .seq) 1
         → ((x d : List ℕ) → Kept (s .table) x → length d ≡ n → m′ ≡ written x (metaAt (s .table) i .slot * dataLimit) d → Stored (entryOf (s .own) seq d (anew clock)) (s .table) x i t m′)
@@ -247,14 +239,11 @@ module _ (s : State) (m : List ℕ) (k : Rep s m) (i : ℕ) (h : Stands (s .tabl
         s m (putPeers p (putTable t s)) m′
     peers-dropped clock seq t p es f l =
         let S : ModelState = stateOf s m in
-        let d : List ℕ = withoutPeers going (part m (start) (e .len)) in
-        let stored : Stored (entryOf (s .own) seq d (anew clock)) (s .table) m i t m′ =
-        f m d (k .table) (sym (w .1)) (w .0 ∙ ap (λ (x : ℕ). written m x d) z ∙ ap (λ (x : Meta). written m (x .slot * dataLimit) d) (o .same)) in
         let q : seq ≡ advance (ownSeq S) 1 = es ∙ ap (λ (x : ℕ). advance x 1) (ap (λ (x : Meta). x .seq) (o .same) ∙ sym (own-seq s m i k h)) in
-        let same-data : d ≡ withoutPeers (keepBy marks (S .peers)) (ownData S) =
-        ap (withoutPeers going) own-part ∙ ap (λ (x : List ModelPeer). withoutPeers (keepBy marks x) (ownData S)) (sym (state-peers s m)) in
+        let same-data : withoutPeers going ours ≡ withoutPeers (keepBy marks (S .peers)) (ownData S) =
+        ap (withoutPeers going) ours-is ∙ ap (λ (x : List ModelPeer). withoutPeers (keepBy marks x) (ownData S)) (sym (state-peers s m)) in
         let once : Published (publish clock (withoutPeers (keepBy marks (S .peers)) (ownData S)) S) s m (putTable t s) m′ =
         subst (λ (x : ℕ). Published (publishAs clock x (withoutPeers (keepBy marks (S .peers)) (ownData S)) S) s m (putTable t s) m′) q
-        (stored-published s m i k h clock seq t d (withoutPeers (keepBy marks (S .peers)) (ownData S)) m′ same-data stored) in
+        (slot-published s m k i h e o start z (withoutPeers going ours) m′ n left-fits (w .0) (w .1) clock seq t (withoutPeers (keepBy marks (S .peers)) (ownData S)) same-data f) in
         published-then (withPeers (keepBy (map not marks) (S .peers))) once refl
         (peers-moved (putTable t s) m′ (once .moved .rep) p (keepBy (map not marks) (S .peers)) (l .0) (l .1 ∙ ap (keepBy (map not marks)) (sym (state-peers s m))))

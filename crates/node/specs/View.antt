@@ -23,7 +23,7 @@ unfoldable pub peersOf : Peers → List ModelPeer
 peersOf p = map peerOf (take (p .count) (p .list))
 
 abbrev pub endpointOf : Endpoint → ModelEndpoint
-endpointOf e = record { trickle = trickleOf (e .trickle); next = e .next }
+endpointOf e = record { trickle = trickleOf (e .trickle); next = e .next; keep = e .keep; quiet = e .quiet }
 
 abbrev pub endpointsOf : List Endpoint → List ModelEndpoint
 endpointsOf es = map endpointOf es

@@ -1,4 +1,4 @@
-// What calls that change state answer. A number is one of document 01's, or 0 where the call is accepted; with another number all else is 0, and the
+// What calls that change state answer. A number is one of the documents', or 0 where the call is accepted; with another number all else is 0, and the
 // state is the one that came in.
 use crate::State;
 

@@ -17,6 +17,10 @@ pub struct Endpoint {
     pub trickle: Trickle,
     // The reading from which network state may be requested again.
     pub next: u64,
+    // The keep-alive interval, in milliseconds.
+    pub keep: u32,
+    // The reading of the last sending plus the delay that was fixed then.
+    pub quiet: u64,
 }
 
 // The state that a call gets and leaves. A host keeps it and need not look into it; node data stand in the lent table memory.

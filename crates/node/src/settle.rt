@@ -83,11 +83,17 @@ pub fn settled(
     }
 }
 
-// The same of a whole state.
+// The same of a whole state, of which only these fields are touched: to hand over all its parts takes more stack in every call.
 pub fn settle(s: State, clock: u64, randoms: [u32; MOST_ENDPOINTS], found: Reached) -> State
     ensures { λ r. ⌜ Settled clock randoms (found .digest) s r ⌝ }
 {
     let es = s.endpoints;
     let old = s.digest;
-    settled(s.own, s.table, s.peers, es, old, clock, randoms, found)
+    let digest = found.digest;
+    let endpoints = renewed(es, old, digest, clock, randoms);
+    let mut r = s;
+    r.last = clock;
+    r.endpoints = endpoints;
+    r.digest = digest;
+    r
 }

@@ -23,7 +23,7 @@ use Rattle.node.proofs.Moves.{moved-to}
 use Rattle.message.proofs.Filled.{request-network-bytes}
 use Rattle.reply.specs.declared.Context.{Context}
 use Rattle.reply.specs.declared.Progress.{Progress}
-use Rattle.reply.specs.Updates.{withLocal}
+use Rattle.reply.specs.Updates.{localNext}
 use Rattle.reply.specs.View.{contextOf, Work, gather, workOf, Sound, Stepped, Writes}
 use Rattle.reply.proofs.Steps.{work-state, putState, stepped-none, stepped-to, stepped-more, stepped-then, stepped-kept, gathered, local-is, local-moved}
 use Rattle.reply.proofs.Replies.{replied-used, replied-none}
@@ -72,15 +72,11 @@ module _ (c : Context) (w : Work) (m r : List ℕ) (h : Sound (c .clock) w m r) 
 
 -- ---- as a step on the progress
 
--- the call's endpoint, the next request from n on
-abbrev pub localNext : ℕ → Progress → Progress
-localNext n d = withLocal (record { trickle = d .local .trickle; next = n }) d
-
 module _ (c : Context) (low : 1 ≤ c .endpoint) (high : c .endpoint ≤ 4) where
   next-moved : (n : ℕ) (b : State) (t : Table) (p : Peers) (d : Progress) (m : List ℕ) → Rep (gathered c b t p d) m
       → Moved (withEndpoint (c .endpoint) (withNext n (endpointAt (c .endpoint) (stateOf (gathered c b t p d) m))) (stateOf (gathered c b t p d) m)) m (gathered c b t p (localNext n d)) m
   next-moved n b t p d m k =
-      moved-to (local-moved c b t p d m k low high (record { trickle = d .local .trickle; next = n }))
+      moved-to (local-moved c b t p d m k low high (localNext n d .local))
       (ap (λ (e : ModelEndpoint). withEndpoint (c .endpoint) (withNext n e) (stateOf (gathered c b t p d) m)) (local-is c b t p d m k low high))
 
   module _ (d : Progress) (r : List ℕ) where

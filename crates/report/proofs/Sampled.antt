@@ -29,7 +29,7 @@ use Rattle.report.proofs.Printing.{report-is}
 -- the lines where household 17 alone has paid, and where none has
 lines-one : (v : ℕ → ℤ) (m : ℕ → Bool) → ((h : ℕ) → m h ≡ eqb 17 h) → linesTo mostHousehold v m ≡ line (decimal 17) (v 17)
 unfolding linesTo
-lines-one v m e = rw (keep-same m (eqb 17) (upTo mostHousehold) e ∙ only-one 17 mostHousehold (omega arith) (omega arith)) (append-nil (line (decimal 17) (v 17)))
+lines-one v m e = rw (keep-same m (eqb 17) (upTo mostHousehold) (λ h m. e h) ∙ only-one 17 mostHousehold (omega arith) (omega arith)) (append-nil (line (decimal 17) (v 17)))
 
 lines-no : (v : ℕ → ℤ) (m : ℕ → Bool) → ((h : ℕ) → m h ≡ false) → linesTo mostHousehold v m ≡ []
 unfolding linesTo

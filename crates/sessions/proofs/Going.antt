@@ -1,72 +1,51 @@
 -- Each call with a memory that is too small is refused, and so leaves all as it was. Assumes nothing.
-use mathlib.Core.Path.{_≡_, refl, sym, ap, _∙_}
-use mathlib.Core.Bool.{false, cond}
-use mathlib.Core.List.{List, [], _∷_}
+use mathlib.Core.Path.{_≡_, sym, ap, _∙_}
+use mathlib.Core.List.{List}
 use Prim.Native.Nat.{ℕ, _≤_}
 use native.Mathlib.Omega.{arith}
 use lib.ListN.{length}
-use lib.Dec.{eqb}
-use borrow.Author.Tests.{eqb-true}
-use Rattle.base.specs.Lists.{All}
-use Rattle.base.proofs.Tests.{by-test}
 use Rattle.wire.specs.Payment.{Payment}
 use Rattle.model.specs.Table.{Entry}
-use Rattle.model.specs.Figures.{tableBytes}
-use Rattle.model.specs.Refusals.{Row, late, smallTable, noHousehold, paidAlready, full, long, noRow}
+use Rattle.model.specs.Figures.{tableBytes, mostBytes}
 use Rattle.model.specs.State.{State as ModelState}
-use Rattle.model.specs.Begin.{Done as ModelDone, refusalBegin, begin}
-use Rattle.model.specs.Snapshot.{noSnapshot, refusalResume, resume}
-use Rattle.model.specs.Pay.{refusalPay, pay, refusalPurge, purge}
-use Rattle.model.specs.Tick.{Sent as ModelSent, refusalTick, tick}
-use Rattle.model.specs.Receive.{Call, Answer as ModelAnswer, refusalReceive, receive}
+use Rattle.model.specs.Begin.{Done as ModelDone, begin}
+use Rattle.model.specs.Snapshot.{resume}
+use Rattle.model.specs.KeepAlive.{keepAlive}
+use Rattle.model.specs.Pay.{pay, purge}
+use Rattle.model.specs.Tick.{Sent as ModelSent, tick}
+use Rattle.model.specs.Receive.{Call, Answer as ModelAnswer, receive}
+use Rattle.model.proofs.Refusals.{refusals-exact}
 use Rattle.node.specs.declared.State.{State}
 use Rattle.node.specs.declared.answers.Done.{Done}
 use Rattle.node.specs.declared.answers.Sent.{Sent}
 use Rattle.node.specs.declared.answers.Answer.{Answer}
 use Rattle.ledger.specs.Promises.{Changes, Sends, Answers}
-use Rattle.ledger.proofs.Left.{none-first, not-small, start-accepted, table-accepted, endpoint-accepted}
+use Rattle.ledger.proofs.Left.{not-small, not-small-room}
 use Rattle.sessions.specs.Kept.{Goes}
 
--- what is answered with number 0 is not refused
-accepted : {A : Type 0} (number : A → ℕ) (n : ℕ) (done refusal : A) → number refusal ≡ n → number (cond (eqb n 0) done refusal) ≡ 0 → n ≡ 0
-accepted number n done refusal e h = by-test (eqb n 0) (λ b. eqb-true n 0 b) (λ b. sym e ∙ (rw b at h))
-
--- ---- a call that is accepted has its table memory
+-- ---- a call that is accepted has its table memory: no row of its refusals applies, and one of them is that memory's
 
 module _ (clock table : ℕ) (s : ModelState) where
   pub begin-room : (own : ℕ) (rs : List ℕ) → begin own clock rs table s .number ≡ 0 → tableBytes ≤ table
-  unfolding begin
-  begin-room own rs h = start-accepted clock table (accepted (λ (d : ModelDone). d .number) (refusalBegin clock table) _ _ refl h) .1
+  begin-room own rs h = not-small table (refusals-exact .begins own clock rs table s .none .0 h .1 .0)
 
   pub resume-room : (bytes rs : List ℕ) → resume clock bytes rs table s .number ≡ 0 → tableBytes ≤ table
-  unfolding resume
-  resume-room bytes rs h =
-      let rows : List Row = late clock ∷ smallTable table ∷ noSnapshot clock bytes ∷ [] in
-      let a : All (λ (r : Row). r .applies ≡ false) rows =
-      none-first rows (omega arith) (accepted (λ (d : ModelDone). d .number) (refusalResume clock bytes table) _ _ refl h) in
-      not-small table (a .1 .0)
-
-  pub pay-room : (p : Payment) (rs : List ℕ) → pay clock p rs table s .number ≡ 0 → tableBytes ≤ table
-  unfolding pay
-  pay-room p rs h =
-      table-accepted clock s table (noHousehold (p .household) ∷ paidAlready p s ∷ full p s ∷ []) (omega arith)
-      (accepted (λ (d : ModelDone). d .number) (refusalPay clock p table s) _ _ refl h) .1 .1
-
-  pub purge-room : (rs : List ℕ) → purge clock rs table s .number ≡ 0 → tableBytes ≤ table
-  unfolding purge
-  purge-room rs h =
-      table-accepted clock s table [] tt (accepted (λ (d : ModelDone). d .number) (refusalPurge clock table s) _ _ refl h) .1 .1
+  resume-room bytes rs h = not-small table (refusals-exact .resumes clock bytes rs table s .none .0 h .1 .0)
 
   pub tick-room : (endpoint room : ℕ) (rs : List ℕ) → tick clock endpoint rs table room s .number ≡ 0 → tableBytes ≤ table
-  unfolding tick
-  tick-room endpoint room rs h =
-      endpoint-accepted clock s endpoint table room [] tt (accepted (λ (d : ModelSent). d .number) (refusalTick clock endpoint table room s) _ _ refl h) .1 .1 .1 .0
+  tick-room endpoint room rs h = not-small-room table room mostBytes (refusals-exact .ticks clock endpoint rs table room s .none .0 h .1 .1 .1 .0) .0
+
+  pub keep-alive-room : (endpoint interval : ℕ) (rs : List ℕ) → keepAlive clock endpoint interval rs table s .number ≡ 0 → tableBytes ≤ table
+  keep-alive-room endpoint interval rs h = not-small table (refusals-exact .chooses clock endpoint interval rs table s .none .0 h .1 .1 .1 .1 .0)
+
+  pub pay-room : (p : Payment) (rs : List ℕ) → pay clock p rs table s .number ≡ 0 → tableBytes ≤ table
+  pay-room p rs h = not-small table (refusals-exact .pays clock p rs table s .none .0 h .1 .1 .0)
+
+  pub purge-room : (rs : List ℕ) → purge clock rs table s .number ≡ 0 → tableBytes ≤ table
+  purge-room rs h = not-small table (refusals-exact .purges clock rs table s .none .0 h .1 .1 .0)
 
 pub receive-room : (c : Call) (s : ModelState) → receive c s .number ≡ 0 → tableBytes ≤ c .table
-unfolding receive
-receive-room c s h =
-    endpoint-accepted (c .clock) s (c .endpoint) (c .table) (c .room) (long (c .datagram) ∷ noRow (c .datagram) ∷ []) (omega arith)
-    (accepted (λ (d : ModelAnswer). d .number) (refusalReceive c s) _ _ refl h) .1 .1 .1 .0
+receive-room c s h = not-small-room (c .table) (c .room) mostBytes (refusals-exact .receives c s .none .0 h .1 .1 .1 .0) .0
 
 -- ---- so a call keeps the premise, and a small memory as it was
 

@@ -75,6 +75,16 @@ fn tick(s: State, mem: &mut [u8], reply: usize, v: [u64; 8]) -> State
     a.state
 }
 
+// The keep-alive interval of an endpoint.
+fn keep_alive(s: State, mem: &mut [u8], v: [u64; 8]) -> State
+    requires { ⌜ AsLeft s (now mem) ⌝ }
+    ensures { λ r. ⌜ Goes s (now (mem .entry)) r (now (mem .exit)) ⌝ }
+{
+    let a = change::pingvratha_keep_alive(s, mem, v[0], small(v[1]), small(v[2]), &four(v, 3));
+    line(b"keep-alive ", a.number);
+    a.state
+}
+
 // A payment of our own.
 fn pay(s: State, mem: &mut [u8], v: [u64; 8]) -> State
     requires { ⌜ AsLeft s (now mem) ⌝ }
@@ -96,7 +106,7 @@ fn purge(s: State, mem: &[u8], v: [u64; 8]) -> State
     a.state
 }
 
-// The call of the line, by the place of its name: begin, resume, receive, tick, pay, purge.
+// The call of the line, by the place of its name: begin, resume, receive, tick, keep-alive, pay, purge.
 pub fn change(
     which: usize,
     s: State,
@@ -114,7 +124,8 @@ pub fn change(
         1 => resume(s, mem, saved, bytes, v),
         2 => receive(s, mem, reply, bytes, v),
         3 => tick(s, mem, reply, v),
-        4 => pay(s, mem, v),
+        4 => keep_alive(s, mem, v),
+        5 => pay(s, mem, v),
         _ => purge(s, mem, v),
     }
 }

@@ -23,13 +23,13 @@ ghost use Rattle.sessions.specs.Kept.{Running};
 
 // Places among the names of lines: calls that change state stand below CHANGING, then `save` and `rooms`; those that print alone from PRINTING on, first
 // calls that sum or show, then `state` and `totals`.
-const CHANGING: usize = 6;
+const CHANGING: usize = 7;
 
-const SAVE: usize = 6;
+const SAVE: usize = 7;
 
-const PRINTING: usize = 8;
+const PRINTING: usize = 9;
 
-const STATE: usize = 12;
+const STATE: usize = 13;
 
 // `saved` bytes are those of the last accepted save.
 pub struct Session {
@@ -104,8 +104,9 @@ fn saving(x: Session, mem: &[u8], saved: &mut [u8], clock: u64) -> Session
 fn said(line: &mut [u8]) -> Line
     ensures { λ r. ⌜ (r .start ≤ r .end) × (r .end ≤ length (now (line .entry))) ⌝ }
 {
-    let names = b"begin resume receive tick pay purge save rooms total sum marks show state totals";
-    let forms = b"ncnnnn cnnnns cnknnnnh cnnnnn cnnannnn cnnnn c ccc cn c c n  h";
+    let names =
+        b"begin resume receive tick keep-alive pay purge save rooms total sum marks show state totals";
+    let forms = b"ncnnnn cnnnns cnknnnnh cnnnnn cnnnnnn cnnannnn cnnnn c ccc cn c c n  h";
     read_line(line, names, forms)
 }
 

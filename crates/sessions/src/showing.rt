@@ -50,9 +50,9 @@ pub fn tell(which: usize, s: State, mem: &[u8], v: [u64; 8])
     requires { ⌜ AsLeft s (now mem) ⌝ }
 {
     match which {
-        8 => total(s, mem, v),
-        9 => sum(s, mem, v),
-        10 => marks(s, mem, v),
+        9 => total(s, mem, v),
+        10 => sum(s, mem, v),
+        11 => marks(s, mem, v),
         _ => show(s, mem, v),
     }
 }

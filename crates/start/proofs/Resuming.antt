@@ -1,4 +1,4 @@
--- Resuming: what was loaded, published once more without the Peer TLVs, and the digest worked out last. Assumes nothing.
+-- Resuming: what was loaded, published once more without the Peer and Keep-Alive TLVs, and the digest worked out last. Assumes nothing.
 use mathlib.Core.Path.{_≡_, refl, sym, ap, _∙_, subst}
 use mathlib.Core.Bool.{true, false}
 use mathlib.Core.List.{List, _++_}
@@ -33,7 +33,7 @@ use Rattle.start.proofs.Starting.{then-digested, table-readable}
 -- ---- our data published once more
 
 module _ (clock : ℕ) (s : State) (m d : List ℕ) (e : d ≡ ownData (stateOf s m)) where
-  -- the place of the Peer TLVs lies in the data that is cut
+  -- their place lies in the data that is cut
   pub unlinked-within : (n : ℕ) → n ≤ length d → n ≤ length (ownData (stateOf s m))
   unlinked-within n h = subst (λ (x : List ℕ). n ≤ length x) e h
 

@@ -8,7 +8,7 @@ use Rattle.model.specs.Figures.{mostPeers, lastReading}
 use Rattle.model.specs.Sequence.{circle}
 use Rattle.model.specs.Table.{Entry, entryOf, anew}
 use Rattle.model.specs.State.{State as ModelState, Endpoint as ModelEndpoint}
-use Rattle.model.specs.Begin.{freshEndpoints, started, begun}
+use Rattle.model.specs.Begin.{freshEndpoint, freshEndpoints, started, begun}
 use Rattle.model.specs.Invariant.{TableFits}
 use Rattle.model.proofs.Sent.{digest-length}
 use Rattle.model.proofs.KeptCalls.{begun-valid}
@@ -23,7 +23,7 @@ use Rattle.node.specs.declared.peers.Peer.{Peer}
 use Rattle.node.specs.declared.peers.Peers.{Peers}
 use Rattle.node.specs.View.{endpointsOf, peersOf, stateOf, PeersRep, Rep, Held, Moved}
 use Rattle.node.proofs.Moves.{moved-to}
-use Rattle.start.specs.Started.{freshEndpoint, undigested, digested}
+use Rattle.start.specs.Started.{undigested, digested}
 
 -- ---- the parts
 

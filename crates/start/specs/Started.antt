@@ -6,21 +6,15 @@ use mathlib.Core.Option.{some}
 use Prim.Native.Nat.{ℕ}
 use lib.ListN.{replicate}
 use Rattle.base.specs.Lists.{isSome}
-use Rattle.model.specs.Figures.{leastInterval}
 use Rattle.model.specs.Table.{Entry}
-use Rattle.model.specs.Trickle.{fresh}
 use Rattle.model.specs.Digest.{networkDigest}
-use Rattle.model.specs.State.{State as ModelState, Endpoint as ModelEndpoint, ownData, publish}
+use Rattle.model.specs.State.{State as ModelState, ownData, publish}
 use Rattle.model.specs.Begin.{freshEndpoints}
 use Rattle.model.specs.Snapshot.{Snapshot, load, withoutLinks, resumed}
 use Rattle.table.specs.View.{Lays}
 use Rattle.node.specs.View.{Moved}
 use Rattle.node.specs.declared.State.{State}
 use Rattle.start.specs.declared.resume.Resumed.{Resumed}
-
--- an endpoint whose interval begins now
-abbrev pub freshEndpoint : ℕ → ℕ → ModelEndpoint
-freshEndpoint clock random = record { trickle = fresh clock leastInterval random; next = 0 }
 
 -- the model's started state, but for the digest
 unfoldable pub undigested : ℕ → ℕ → List ℕ → List Entry → ModelState
@@ -32,7 +26,7 @@ unfoldable pub digested : ℕ → ModelState → ModelState
 digested clock s =
     record { own = s .own; last = s .last; table = s .table; peers = s .peers; endpoints = s .endpoints; digest = networkDigest (s .own) clock (s .table) }
 
--- our data published without the Peer TLVs
+-- our data published without the Peer and Keep-Alive TLVs
 unfoldable pub unlinked : ℕ → ModelState → ModelState
 unlinked clock s = publish clock (withoutLinks (ownData s)) s
 

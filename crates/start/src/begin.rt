@@ -2,8 +2,10 @@
 use model::figures::LEAST_INTERVAL;
 use model::figures::MOST_ENDPOINTS;
 use model::figures::MOST_PEERS;
+use model::figures::USUAL_INTERVAL;
 use node::Endpoint;
 use node::State;
+use node::endpoints::quiet_from;
 use node::peers::Peer;
 use node::peers::Peers;
 use reach::reach;
@@ -14,24 +16,28 @@ ghost use mathlib.Core.List.{List, []};
 ghost use Prim.Native.Nat.{ℕ, _≤_};
 ghost use lib.ListN.{length};
 ghost use Rattle.model.specs.Figures.{mostEndpoints, tableBytes, lastReading};
-ghost use Rattle.model.specs.Begin.{freshEndpoints, begun};
+ghost use Rattle.model.specs.Begin.{freshEndpoint, freshEndpoints, begun};
 ghost use Rattle.table.specs.View.{view, Kept};
 ghost use Rattle.reach.specs.Marks.{Readable};
 ghost use Rattle.node.specs.View.{endpointOf, endpointsOf, peersOf, stateOf, PeersRep, Rep, Held, Moved};
-ghost use Rattle.start.specs.Started.{freshEndpoint, undigested, digested};
+ghost use Rattle.start.specs.Started.{undigested, digested};
 
-// An endpoint whose interval begins now, with nothing requested yet.
+// An endpoint whose interval begins now, with nothing requested yet, as if it had sent just now.
 fn fresh_endpoint(clock: u64, random: u32) -> Endpoint
+    requires { ⌜ clock ≤ lastReading ⌝ }
     ensures { λ r. ⌜ endpointOf r ≡ freshEndpoint clock random ⌝ }
 {
     Endpoint {
         trickle: Trickle::fresh(clock, LEAST_INTERVAL, random),
         next: 0,
+        keep: USUAL_INTERVAL,
+        quiet: quiet_from(clock, random),
     }
 }
 
 // All four.
 fn fresh_endpoints(clock: u64, randoms: [u32; MOST_ENDPOINTS]) -> [Endpoint; MOST_ENDPOINTS]
+    requires { ⌜ clock ≤ lastReading ⌝ }
     ensures { λ r. ⌜ (length r ≡ mostEndpoints) × (endpointsOf r ≡ freshEndpoints clock randoms) ⌝ }
 {
     [
@@ -60,6 +66,7 @@ fn no_peers() -> Peers
 
 // Our node with a table, its network digest not worked out yet.
 pub fn undigested(own: u32, clock: u64, randoms: [u32; MOST_ENDPOINTS], t: Table) -> State
+    requires { ⌜ clock ≤ lastReading ⌝ }
     ensures { λ r. ⌜ ((m : List ℕ) → Kept t m → Rep r m × (stateOf r m ≡ undigested own clock randoms (view t m))) × (r .table ≡ t) ⌝ }
 {
     State {

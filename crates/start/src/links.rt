@@ -1,4 +1,5 @@
-// Our Peer TLVs in our own data: good data ascends, so that they stand one after the other.
+// Our Peer and Keep-Alive TLVs, types 8 and 9, in our own data: good data ascends, so that they stand one after the other.
+use node::publish::Span;
 use reach::front::place_from;
 ghost use mathlib.Core.Path.{_≡_};
 ghost use mathlib.Core.Bool.{true};
@@ -9,20 +10,14 @@ ghost use Rattle.wire.specs.Order.{good};
 ghost use Rattle.model.specs.Figures.{dataLimit};
 ghost use Rattle.model.specs.Snapshot.{withoutLinks};
 
-// The bytes from `start` on that are Peer TLVs.
-pub struct Links {
-    pub start: usize,
-    pub size: usize,
-}
-
-// Where they stand: cut out, they leave the data without Peer TLVs.
-pub fn links_in(d: &[u8]) -> Links
+// Where they stand: cut out, they leave the data without them.
+pub fn links_in(d: &[u8]) -> Span
     requires { ⌜ good dataLimit (now d) ≡ true ⌝ }
     ensures { λ r. ⌜ (r .start + r .size ≤ length (now (d .entry))) × (cut (now (d .entry)) (r .start) (r .size) ≡ withoutLinks (now (d .entry))) ⌝ }
 {
     let start = place_from(d, 0, 8);
-    let end = place_from(d, start, 9);
-    Links {
+    let end = place_from(d, start, 10);
+    Span {
         start,
         size: end - start,
     }

@@ -25,7 +25,7 @@ pub struct Resumed {
     pub state: State,
 }
 
-// Our data published once more, without the Peer TLVs.
+// Our data published once more, without the Peer and Keep-Alive TLVs.
 fn republish(s: State, mem: &mut [u8], clock: u64) -> State
     requires { ⌜ Rep s (now mem) × (Held s (now mem) × (good dataLimit (ownData (stateOf s (now mem))) ≡ true)) ⌝ }
     ensures { λ r. ⌜ Published (unlinked clock (stateOf s (now (mem .entry)))) s (now (mem .entry)) r (now (mem .exit)) ⌝ }

@@ -1,19 +1,30 @@
 -- An equal digest heard, the send point, and what the invariant gives the code. Assumes nothing.
 use mathlib.Core.Path.{_≡_, ap}
-use mathlib.Core.Bool.{false}
+use mathlib.Core.Bool.{true, false}
 use mathlib.Core.Logic.{inl, inr}
 use Prim.Native.Nat.{ℕ, _+_, _/_, _≤_, _<_}
 use native.Mathlib.Omega.{arith}
-use lib.Dec.{leb}
+use lib.Dec.{leb, ltb}
+use borrow.Author.Tests.{leb-true, leb-false, le-ltb, lt-ltb}
 use Rattle.base.specs.Lists.{In}
+use Rattle.base.proofs.Tests.{by-test}
 use Rattle.model.specs.Figures.{lastReading, leastInterval, greatestInterval}
-use Rattle.model.specs.Trickle.{Trickle as ModelTrickle, hear, pointDue}
+use Rattle.model.specs.Trickle.{Trickle as ModelTrickle, hear, pointDue, isIdle}
 use Rattle.model.specs.Invariant.{TrickleFits, intervals}
 use Rattle.trickle.specs.declared.Trickle.{Trickle}
 use Rattle.trickle.specs.View.{trickleOf, Small}
 
 pub due-open : (t : ModelTrickle) (clock : ℕ) → t .spent ≡ false → pointDue clock t ≡ leb (t .start + t .point) clock
 due-open t clock h = rw h
+
+module _ (t : ModelTrickle) (clock : ℕ) where
+  pub idle-due : pointDue clock t ≡ true → isIdle clock t ≡ false
+  idle-due h = rw h
+
+  pub idle-open : pointDue clock t ≡ false → isIdle clock t ≡ ltb clock (t .start + t .interval)
+  idle-open h =
+      by-test (leb (t .start + t .interval) clock) (λ b. rw (h, b, le-ltb clock (t .start + t .interval) (leb-true (t .start + t .interval) clock b)))
+      (λ b. rw (h, b, lt-ltb clock (t .start + t .interval) (leb-false (t .start + t .interval) clock b)))
 
 module _ (t : ModelTrickle) where
   counted : ℕ → ModelTrickle

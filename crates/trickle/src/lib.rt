@@ -6,7 +6,7 @@ use model::figures::REDUNDANCY;
 ghost use mathlib.Core.Path.{_≡_};
 ghost use Prim.Native.Nat.{_*_, _≤_, min};
 ghost use Rattle.model.specs.Figures.{leastInterval, greatestInterval};
-ghost use Rattle.model.specs.Trickle.{fresh, hear, reset, pointDue, event};
+ghost use Rattle.model.specs.Trickle.{fresh, hear, reset, pointDue, isIdle, event};
 ghost use Rattle.trickle.specs.View.{trickleOf, eventOf, Small};
 
 // When an endpoint sends: at start + point, unless an equal digest was heard since start.
@@ -88,6 +88,17 @@ impl Trickle {
             return false;
         }
         self.start + self.point <= clock
+    }
+
+    // Neither the send point nor the interval's end is due.
+    pub fn is_idle(self, clock: u64) -> bool
+        requires { ⌜ Small self ⌝ }
+        ensures { λ r. ⌜ r ≡ isIdle clock (trickleOf self) ⌝ }
+    {
+        if self.is_due(clock) {
+            return false;
+        }
+        clock < self.start + self.interval
     }
 
     // At most one event: the send point, else the interval's end.

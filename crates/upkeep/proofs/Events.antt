@@ -2,7 +2,7 @@
 use mathlib.Core.Path.{_≡_, refl, sym, ap, _∙_, subst}
 use mathlib.Core.Bool.{true, false, cond}
 use mathlib.Core.List.{List, [], _++_}
-use Prim.Native.Nat.{ℕ, pred, _≤_}
+use Prim.Native.Nat.{ℕ, pred, _+_, _≤_}
 use native.Mathlib.Omega.{arith}
 use lib.ListN.{length, getD, take, drop, length-append}
 use Rattle.base.specs.Memory.{written}
@@ -11,16 +11,15 @@ use Rattle.wire.proofs.Encoded.{encode-length}
 use Rattle.model.specs.Figures.{mostBytes, lastReading}
 use Rattle.model.specs.Digest.{networkDigest}
 use Rattle.model.specs.Trickle.{event}
-use Rattle.model.specs.State.{State as ModelState, Endpoint as ModelEndpoint, withTrickle, endpointAt, withEndpoint, settle}
+use Rattle.model.specs.State.{State as ModelState, Endpoint as ModelEndpoint, endpointAt, withEndpoint, settle}
 use Rattle.model.specs.Messages.{endpointTlv, networkTlv}
-use Rattle.model.specs.Tick.{dropSilent, Sent, announcement, withEvent, ticked}
+use Rattle.model.specs.Tick.{dropSilent, Sent, announcement, endpointEvent, afterEvent, withEvent, ticked}
 use Rattle.model.specs.Invariant.{EndpointFits, Midway}
 use Rattle.model.proofs.Cases.{endpoint-length, ticked-is}
 use Rattle.model.proofs.KeptParts.{endpoint-fits, settle-midway}
 use Rattle.model.proofs.KeptTick.{silent-kept}
-use Rattle.trickle.specs.View.{trickleOf, eventOf, Small}
+use Rattle.trickle.specs.View.{eventOf}
 use Rattle.trickle.specs.declared.Event.{Event}
-use Rattle.trickle.proofs.Laws.{fits-small}
 use Rattle.table.specs.View.{view, Wrote}
 use Rattle.table.specs.declared.Table.{Table}
 use Rattle.reach.specs.Marks.{Readable}
@@ -64,7 +63,7 @@ module _ (clock i : ℕ) (s : State) (m : List ℕ) (mid : Midway clock (stateOf
         midway = settle-midway clock rs (dropSilent clock i (stateOf s m)) (silent-kept clock i (stateOf s m) mid);
       }
 
--- ---- the event
+-- ---- the tick
 
 abbrev sent : ModelState → List ℕ → Sent
 sent s d = record { number = 0; state = s; bytes = d }
@@ -77,36 +76,40 @@ module _ (clock i : ℕ) (rs : List ℕ) (s : State) (m : List ℕ) (b : State) 
   endpoint-is : endpointOf e ≡ endpointAt i after
   endpoint-is = q ∙ ap (endpointAt i) (o .published .moved .is)
 
-  pub trickle-small : 1 ≤ i → i ≤ 4 → clock ≤ lastReading → Small (e .trickle)
-  trickle-small low high l =
-      fits-small clock (e .trickle) l (subst (EndpointFits clock) (sym endpoint-is) (endpoint-fits i low high after (o .midway)) .trickle)
+  pub found-fits : 1 ≤ i → i ≤ 4 → EndpointFits clock (endpointOf e)
+  found-fits low high = subst (EndpointFits clock) (sym endpoint-is) (endpoint-fits i low high after (o .midway))
 
-  module _ (v : Event) (k : ℕ) (n : pred i ≡ k) (w : eventOf v ≡ event clock (getD rs k 0) (trickleOf (e .trickle)))
-      (r : State) (f : Rep r m′) (u : stateOf r m′ ≡ withEndpoint i (endpointOf (record { trickle = v .next; next = e .next })) (stateOf b m′)) (t : r .table ≡ b .table) where
-    event-is : event clock (getD rs (pred i) 0) (endpointAt i after .trickle) ≡ eventOf v
+  module _ (v : Event) (k : ℕ) (n : pred i ≡ k) (w : eventOf v ≡ endpointEvent clock (getD rs k 0) (endpointOf e))
+      (f : Endpoint) (g : endpointOf f ≡ afterEvent clock (getD rs k 0) (eventOf v) (endpointOf e))
+      (r : State) (a : Rep r m′) (u : stateOf r m′ ≡ withEndpoint i (endpointOf f) (stateOf b m′)) (t : r .table ≡ b .table) where
+    abbrev random : ℕ
+    random = getD rs (pred i) 0
+
+    event-is : endpointEvent clock random (endpointAt i after) ≡ eventOf v
     event-is =
-        ap (λ (j : ℕ). event clock (getD rs j 0) (endpointAt i after .trickle)) n
-        ∙ ap (λ (x : ModelEndpoint). event clock (getD rs k 0) (x .trickle)) (sym endpoint-is)
+        ap (λ (j : ℕ). endpointEvent clock (getD rs j 0) (endpointAt i after)) n
+        ∙ ap (endpointEvent clock (getD rs k 0)) (sym endpoint-is)
         ∙ sym w
 
-    state-is : stateOf r m′ ≡ withEndpoint i (withTrickle (trickleOf (v .next)) (endpointAt i after)) after
+    state-is : stateOf r m′ ≡ withEndpoint i (afterEvent clock random (eventOf v) (endpointAt i after)) after
     state-is =
         u
-        ∙ ap (withEndpoint i (withTrickle (trickleOf (v .next)) (endpointOf e))) (o .published .moved .is)
-        ∙ ap (λ (x : ModelEndpoint). withEndpoint i (withTrickle (trickleOf (v .next)) x) after) endpoint-is
+        ∙ ap (withEndpoint i (endpointOf f)) (o .published .moved .is)
+        ∙ ap (λ (x : ModelEndpoint). withEndpoint i x after)
+        (g ∙ ap (λ (j : ℕ). afterEvent clock (getD rs j 0) (eventOf v) (endpointOf e)) (sym n) ∙ ap (afterEvent clock random (eventOf v)) endpoint-is)
 
     -- what is sent names the state after the event
     announced-is : endpointTlv (r .own) i ++ networkTlv (r .digest) ≡ announcement i after
     announced-is =
-        let a : r .own ≡ after .own = sym (state-own r m′) ∙ ap (λ (x : ModelState). x .own) state-is in
+        let c : r .own ≡ after .own = sym (state-own r m′) ∙ ap (λ (x : ModelState). x .own) state-is in
         let d : r .digest ≡ after .digest = sym (state-digest r m′) ∙ ap (λ (x : ModelState). x .digest) state-is in
-        rw (a, d)
+        rw (c, d)
 
     answer-is : (d : List ℕ) → d ≡ cond (v .sends) (announcement i after) [] → sent (stateOf r m′) d ≡ ticked clock i rs (stateOf s m)
     answer-is d p =
         ap (λ (x : ModelState). sent x d) state-is
-        ∙ ap (sent (withEndpoint i (withTrickle (trickleOf (v .next)) (endpointAt i after)) after)) p
-        ∙ ap (withEvent i after) (sym event-is)
+        ∙ ap (sent (withEndpoint i (afterEvent clock random (eventOf v) (endpointAt i after)) after)) p
+        ∙ ap (withEvent clock random i after) (sym event-is)
         ∙ sym (ticked-is clock i (stateOf s m) rs)
 
     wrote : Wrote (s .table) m (view (r .table) m′) (r .table) m′
@@ -118,7 +121,7 @@ module _ (clock i : ℕ) (rs : List ℕ) (s : State) (m : List ℕ) (b : State) 
       quiet-tick h =
           record {
             accepted = refl;
-            rep = f;
+            rep = a;
             wrote = wrote;
             is = answer-is [] (rw h);
             used = omega arith;
@@ -132,10 +135,10 @@ module _ (clock i : ℕ) (rs : List ℕ) (s : State) (m : List ℕ) (b : State) 
           → TickedFrom s m room clock i rs (record { number = 0; state = r; length = 32 }) m′ room′
       sent-tick h l room′ p =
           let d : List ℕ = endpointTlv (r .own) i ++ networkTlv (r .digest) in
-          let z : length (endpointTlv (r .own) i ++ networkTlv (r .digest)) ≡ 32 = announced-length (r .own) i (r .digest) (f .digest) in
+          let z : length (endpointTlv (r .own) i ++ networkTlv (r .digest)) ≡ 32 = announced-length (r .own) i (r .digest) (a .digest) in
           record {
             accepted = refl;
-            rep = f;
+            rep = a;
             wrote = wrote;
             is = answer-is (take 32 room′) (part-there room room′ d 0 32 p (sym z) (omega arith) ∙ announced-is ∙ rw h);
             used = omega arith;

@@ -4,4 +4,5 @@ pub mod Leaving
 pub mod Shapes
 pub mod Removal
 pub mod Events
+pub mod Choosing
 pub mod Purging

@@ -46,15 +46,15 @@ fn is_keep_alive(nd: &[u8], at: usize, h: Header, endpoint: u32) -> bool
 }
 
 // The interval that node data give for an endpoint: the first Keep-Alive TLV's, else 20,000.
-pub fn interval_in(nd: &[u8], endpoint: u32) -> u64
+pub fn interval_in(nd: &[u8], endpoint: u32) -> u32
     requires { ⌜ isRow (now nd) ≡ true ⌝ }
-    ensures { λ r. ⌜ (r ≡ intervalIn (now (nd .entry)) endpoint) × (r < 4294967296) ⌝ }
+    ensures { λ r. ⌜ r ≡ intervalIn (now (nd .entry)) endpoint ⌝ }
 {
     let mut at = 0;
     while at < nd.len() {
         let h = tlv_at(nd, at);
         if is_keep_alive(nd, at, h, endpoint) {
-            return read_u32(nd, h.start + 4) as u64;
+            return read_u32(nd, h.start + 4);
         }
         at = h.next;
     }
@@ -62,17 +62,16 @@ pub fn interval_in(nd: &[u8], endpoint: u32) -> u64
 }
 
 // 10 x silence is at least 21 x interval; the product of the silence could exceed 64 bits.
-pub fn is_silent(interval: u64, silence: u64) -> bool
-    requires { ⌜ interval < 4294967296 ⌝ }
+pub fn is_silent(interval: u32, silence: u64) -> bool
     ensures { λ r. ⌜ r ≡ silentFor interval silence ⌝ }
 {
-    (21 * interval + 9) / 10 <= silence
+    (21 * (interval as u64) + 9) / 10 <= silence
 }
 
 // The interval of a peer: from its node's data, in reach or not.
-fn interval_of(t: Table, mem: &[u8], p: Peer) -> u64
+fn interval_of(t: Table, mem: &[u8], p: Peer) -> u32
     requires { ⌜ Kept t (now mem) × AllGood (view t (now mem)) ⌝ }
-    ensures { λ r. ⌜ (r ≡ intervalOf (view t (now (mem .entry))) (peerOf p)) × (r < 4294967296) ⌝ }
+    ensures { λ r. ⌜ r ≡ intervalOf (view t (now (mem .entry))) (peerOf p) ⌝ }
 {
     let found = find(t, p.node);
     match found {

@@ -4,12 +4,16 @@ use base::memory::store;
 use message::network_tlv;
 use message::put_endpoint;
 use model::figures::MOST_ENDPOINTS;
+use node::Endpoint;
 use node::State;
 use node::answers::Sent;
 use node::endpoints::endpoint_at;
+use node::endpoints::quiet_from;
 use node::endpoints::with_endpoint;
 use node::settle::settle;
 use reach::reach;
+use trickle::Event;
+use trickle::Trickle;
 ghost use mathlib.Core.Path.{_≡_};
 ghost use Prim.Native.Nat.{_≤_};
 ghost use lib.ListN.{length};
@@ -17,8 +21,10 @@ ghost use Rattle.base.specs.Memory.{written};
 ghost use mathlib.Core.List.{_++_};
 ghost use Rattle.model.specs.Figures.{mostEndpoints, mostBytes, lastReading};
 ghost use Rattle.model.specs.Messages.{endpointTlv, networkTlv};
-ghost use Rattle.model.specs.Invariant.{Midway};
-ghost use Rattle.node.specs.View.{stateOf, Rep};
+ghost use Rattle.model.specs.Tick.{endpointEvent, afterEvent};
+ghost use Rattle.model.specs.Invariant.{EndpointFits, Midway};
+ghost use Rattle.trickle.specs.View.{eventOf};
+ghost use Rattle.node.specs.View.{endpointOf, stateOf, Rep};
 ghost use Rattle.upkeep.specs.Ticked.{Cleared, TickedFrom};
 
 // Node Endpoint and Network State to the front of the room.
@@ -47,6 +53,42 @@ fn cleared(
     settle(a, clock, randoms, found)
 }
 
+// The endpoint's event: Trickle's, or where neither of its two is due and the endpoint has sent nothing for its interval and delay, a keep-alive.
+fn event_of(e: Endpoint, clock: u64, random: u32) -> Event
+    requires { ⌜ EndpointFits clock (endpointOf e) × (clock ≤ lastReading) ⌝ }
+    ensures { λ r. ⌜ eventOf r ≡ endpointEvent clock random (endpointOf e) ⌝ }
+{
+    let t = e.trickle;
+    if !t.is_idle(clock) {
+        return t.tick(clock, random);
+    }
+    if clock < e.quiet + (e.keep as u64) {
+        return Event {
+            sends: false,
+            next: t,
+        };
+    }
+    Event {
+        sends: true,
+        next: Trickle::fresh(clock, t.interval, random),
+    }
+}
+
+// The endpoint after it: what is sent fixes the next delay.
+fn after_event(e: Endpoint, v: Event, clock: u64, random: u32) -> Endpoint
+    requires { ⌜ clock ≤ lastReading ⌝ }
+    ensures { λ r. ⌜ endpointOf r ≡ afterEvent clock random (eventOf v) (endpointOf e) ⌝ }
+{
+    let next = v.next;
+    let mut r = e;
+    r.trickle = next;
+    if !v.sends {
+        return r;
+    }
+    r.quiet = quiet_from(clock, random);
+    r
+}
+
 // At most one event on the endpoint, after silent peers have gone and the digest was compared.
 pub fn tick(
     s: State,
@@ -61,13 +103,10 @@ pub fn tick(
 {
     let b = cleared(s, mem, clock, endpoint, randoms);
     let e = endpoint_at(b, endpoint);
-    let t = e.trickle;
     let k = (endpoint - 1) as usize;
-    let v = t.tick(clock, randoms[k]);
-    let next = v.next;
-    let mut f = e;
-    f.trickle = next;
-    let r = with_endpoint(b, endpoint, f);
+    let random = randoms[k];
+    let v = event_of(e, clock, random);
+    let r = with_endpoint(b, endpoint, after_event(e, v, clock, random));
     if !v.sends {
         return Sent {
             number: 0,

@@ -190,7 +190,7 @@ place-ascending t (u ∷ us) c a =
     by-test (before t u) (λ q. rw (q, q) c)
     (λ q. rw q (place-climbs u t us (before-either t u q (or-left _ _ a)) c (or-right (same t u) _ a)))
 
-place-length : (t : List ℕ) (us : List (List ℕ)) → length (joinAll (place t us)) ≡ length t + length (joinAll us)
+pub place-length : (t : List ℕ) (us : List (List ℕ)) → length (joinAll (place t us)) ≡ length t + length (joinAll us)
 unfolding place
 place-length t [] = length-append t []
 place-length t (u ∷ us) =
@@ -398,6 +398,12 @@ module _ (t : List ℕ) where
   unfolding among
   among-in [] e = no-way false e refl
   among-in (u ∷ us) e = by-test (same t u) (λ b. inl (same-is t u b)) (λ b. inr (among-in us (rw b at e)))
+
+  pub not-among : (u : List ℕ) (us : List (List ℕ)) → among t us ≡ false → In u us → same t u ≡ false
+  unfolding among
+  not-among u [] e m = absurd m
+  not-among u (x ∷ us) e (inl q) = rw q (or-left (same t x) (among t us) e)
+  not-among u (x ∷ us) e (inr m) = not-among u us (or-right (same t x) (among t us) e) m
 
 -- a TLV has four bytes at least
 wholes-few : (ts : List (List ℕ)) → Wholes ts → 4 * length ts ≤ length (joinAll ts)

@@ -15,6 +15,28 @@ pub fn payment(random: &mut Random) -> Payment {
     }
 }
 
+/// A keep-alive interval to choose: mostly small ones, so that keep-alives go out, and edges.
+pub fn interval(random: &mut Random) -> u32 {
+    let small = random.range(2, 3_000) as u32;
+    random.pick(&[
+        0,
+        1,
+        10,
+        100,
+        small,
+        small,
+        small,
+        5_000,
+        19_999,
+        20_000,
+        20_000,
+        20_001,
+        600_000,
+        600_001,
+        u32::MAX,
+    ])
+}
+
 /// A type 40 TLV that is no payment.
 fn unreadable_payment(random: &mut Random) -> Vec<u8> {
     let value: &[u8] = random.pick(&[
@@ -59,6 +81,15 @@ pub fn published_tlv(random: &mut Random) -> Vec<u8> {
         10 => wire::peer_tlv(node, endpoint, endpoint),
         _ => odd_tlv(random),
     }
+}
+
+/// A type 9 TLV for any endpoint, with any interval, often of a wrong length.
+fn odd_keep_alive(random: &mut Random) -> Vec<u8> {
+    let endpoint = random.pick(&[0, 1, 2, 3, 4, 5, 9, u32::MAX]);
+    let interval = random.pick(&[0, 1, 100, 20_000, 600_000, 600_001, u32::MAX]);
+    let mut value = wire::keep_alive_tlv(endpoint, interval)[4..].to_vec();
+    value.resize(random.pick(&[0, 4, 7, 8, 8, 8, 8, 9, 12]), 0);
+    wire::tlv(wire::KEEP_ALIVE, &value)
 }
 
 /// A TLV of any type, with a value of any length that is small.
@@ -123,6 +154,10 @@ pub fn data_of_length(random: &mut Random, length: usize) -> Vec<u8> {
     for _ in 0..random.below(20) {
         tlvs.push(wire::payment_tlv(&payment(random)));
     }
+    // In our own data these go when we resume.
+    for _ in 0..random.pick(&[0, 0, 1, 3]) {
+        tlvs.push(odd_keep_alive(random));
+    }
     let mut data = good_data(tlvs);
     // The filler's type is above that of payments, so it stands last.
     let filler = vec![random.word() as u8; length - data.len() - 4];
@@ -147,10 +182,15 @@ pub fn snapshot_of(own: u32, nodes: &[Saved]) -> Vec<u8> {
     out
 }
 
-fn saved_node(random: &mut Random, node: u32) -> Saved {
+fn saved_node(random: &mut Random, node: u32, own: u32) -> Saved {
     let mut tlvs = Vec::new();
     for _ in 0..random.below(6) {
         tlvs.push(published_tlv(random));
+    }
+    if node == own {
+        for _ in 0..random.below(4) {
+            tlvs.push(odd_keep_alive(random));
+        }
     }
     let any = random.word();
     let seq = random.pick(&[0, 1, u32::MAX, (1 << 31) - 1, any]);
@@ -166,7 +206,7 @@ pub fn snapshot(random: &mut Random, own: u32) -> Vec<u8> {
     ids.sort_unstable();
     let nodes: Vec<Saved> = ids
         .into_iter()
-        .map(|node| saved_node(random, node))
+        .map(|node| saved_node(random, node, own))
         .collect();
     snapshot_of(own, &nodes)
 }

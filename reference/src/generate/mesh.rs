@@ -87,6 +87,12 @@ impl Mesh {
                     &randoms,
                 );
             }
+            if generator.random.one_in(150) {
+                let endpoint = generator.random.range(1, 4) as u32;
+                let interval = craft::interval(&mut generator.random);
+                let randoms = generator.random.randoms();
+                other.keep_alive(TABLE_ROOM, clock, endpoint, interval, &randoms);
+            }
             if generator.random.one_in(400) {
                 // Power lost, nothing saved: it must reclaim its identifier.
                 other.begin(TABLE_ROOM, other.own, clock, &[0; 4]);
@@ -108,9 +114,11 @@ impl Mesh {
     fn tick_under_test(&mut self, generator: &mut Generator) {
         let clock = generator.clock;
         for endpoint in 1..=4 {
-            let due = generator.session.node.trickle[endpoint as usize - 1];
+            let node = &generator.session.node;
+            let due = node.trickle[endpoint as usize - 1];
             let point = if due.spent { due.interval } else { due.point };
-            let is_due = clock >= due.start + point;
+            let keep_alive_due = node.keep_alives[endpoint as usize - 1].due();
+            let is_due = clock >= (due.start + point).min(keep_alive_due);
             if (is_due && !generator.random.one_in(5)) || generator.random.one_in(60) {
                 let sent = generator.tick(endpoint);
                 let port = Port {
@@ -127,7 +135,7 @@ impl Mesh {
             0..=2 => generator.pay(),
             3 if generator.random.one_in(4) => generator.purge(),
             4..=7 => generator.look(),
-            8 if generator.random.one_in(3) => self.restart(generator),
+            8 if generator.random.one_in(3) => generator.restart(),
             9 => {
                 // A stranger, or a statement out of nowhere.
                 let datagram = generator.datagram(4);
@@ -135,21 +143,8 @@ impl Mesh {
                 let multicast = generator.random.one_in(2);
                 generator.receive(endpoint, multicast, &datagram);
             }
+            10 | 11 => generator.keep_alive(),
             _ => {}
-        }
-    }
-
-    /// Power is lost and comes back; the snapshot may be an old one.
-    fn restart(&mut self, generator: &mut Generator) {
-        if generator.random.one_in(2) {
-            generator.call(&format!("save {}", generator.clock));
-        }
-        let own = generator.session.node.own;
-        if generator.random.one_in(3) {
-            generator.begin(own);
-        } else {
-            let randoms = generator.randoms();
-            generator.call(&format!("resume {} {randoms} last", generator.clock));
         }
     }
 

@@ -1,7 +1,7 @@
 use borrow.Author.Needs.{needs}
 use Rattle.node.proofs.leaving.drop_peers.Statement.{statement}
 use Rattle.node.proofs.leaving.drop_peers.Tie as tie
-use Rattle.node.proofs.Stripping.{strip-asks, slot-asks, peers-dropped}
+use Rattle.node.proofs.Stripping.{strip-asks, stripped-asks, peers-dropped}
 
 own-place-requires : tie.Need-own-place-requires
 own-place-requires c κs = search needs
@@ -35,7 +35,7 @@ publish-slot-requires c κs =
     let e = c .before .before .before .before .before .before .before .before .meta-at in
     let b = c .before .before .before .before .before .before .start-of in
     let w = c .before .before .before .before .strip in
-    slot-asks (a .s) (a .mem .now) (p .0) (i .result) (i .ensures) (p .1 .1) (e .result) (e .ensures) (b .result) (b .ensures) (a .marks) (w .last .0) (w .result) (w .ensures)
+    stripped-asks (a .s) (a .mem .now) (p .0) (i .result) (i .ensures) (p .1 .1) (e .result) (e .ensures) (b .result) (b .ensures) (a .marks) (w .last .0) (w .result) (w .ensures)
 
 staying-requires : tie.Need-staying-requires
 staying-requires c κs = search needs

@@ -1,4 +1,3 @@
-use borrow.Author.Needs.{needs}
 use native.Mathlib.Omega.{arith}
 use mathlib.Core.Path.{_≡_, sym, _∙_}
 use mathlib.Core.Bool.{true}
@@ -37,15 +36,12 @@ read-u32-requires c κs =
     let k = c .before .before .before .tlv-at in
     omega (arith, k .ensures .inside, k .ensures .within, long-enough (a .nd .now) (c .before .before .before .before .before .loop .at) (k .result) (k .ensures) (a .endpoint) (c .before .before .is-keep-alive .ensures) (c .before .if1 .taken))
 
-cast-result : tie.Need-cast-result Inv-loop μ-loop
-cast-result c = search needs
-
 returns : tie.Need-returns Inv-loop μ-loop
 returns c =
     let a = c .before .before .before .before .before .before .before .before .args in
     let v = c .before .before .before .before .before .before .loop in
     let k = c .before .before .before .before .tlv-at in
-    (c .read-u32 .ensures ∙ sym (v .inv .2 ∙ given-here (a .nd .now) (a .endpoint) (v .at) (k .result) (k .ensures) (c .before .before .before .is-keep-alive .ensures) (c .before .before .if1 .taken)), search needs)
+    c .read-u32 .ensures ∙ sym (v .inv .2 ∙ given-here (a .nd .now) (a .endpoint) (v .at) (k .result) (k .ensures) (c .before .before .before .is-keep-alive .ensures) (c .before .before .if1 .taken))
 
 loop-less : tie.Need-loop-less Inv-loop μ-loop
 loop-less c = let k = c .before .before .tlv-at in omega (arith, k .ensures .onward, k .ensures .within)
@@ -61,7 +57,7 @@ returns-2 : tie.Need-returns-2 Inv-loop μ-loop
 returns-2 c =
     let a = c .before .before .before .args in
     let v = c .before .loop in
-    (sym (v .inv .2 ∙ given-end (a .nd .now) (a .endpoint) (v .at) (omega arith)), omega arith)
+    sym (v .inv .2 ∙ given-end (a .nd .now) (a .endpoint) (v .at) (omega arith))
 
 pub interval-in-spec : {M : Type 1} → statement M
 interval-in-spec =
@@ -74,7 +70,6 @@ interval-in-spec =
     is-keep-alive-requires
     add-read-u32
     read-u32-requires
-    cast-result
     returns
     loop-less
     loop-again

@@ -1,5 +1,4 @@
 use borrow.Author.Needs.{needs}
-use native.Mathlib.Omega.{arith}
 use mathlib.Core.Path.{sym, ap, _∙_}
 use mathlib.Core.List.{List}
 use Prim.Native.Nat.{ℕ}
@@ -38,13 +37,13 @@ returns c =
     let a = c .before .before .before .before .before .before .before .args in
     let g = c .before .before .before .found .given in
     let h = stands-of (a .t) (a .p .node) (g .0 .0) (c .before .before .before .before .before .find .result) (g .1) (c .before .before .before .before .before .find .ensures) in
-    (c .interval-in .ensures .0 ∙ ap (λ (d : List ℕ). intervalIn d (a .p .theirs)) (c .before .data-of .ensures .0) ∙ sym (interval-found (a .t) (a .mem .now) (c .before .before .before .before .before .before .before .pre .0) (g .0 .0) (peerOf (a .p)) h), c .interval-in .ensures .1)
+    c .interval-in .ensures ∙ ap (λ (d : List ℕ). intervalIn d (a .p .theirs)) (c .before .data-of .ensures .0) ∙ sym (interval-found (a .t) (a .mem .now) (c .before .before .before .before .before .before .before .pre .0) (g .0 .0) (peerOf (a .p)) h)
 
 returns-2 : tie.Need-returns-2
 returns-2 c =
     let a = c .before .before .before .before .args in
     let g = c .enum-told .given in
-    (sym (interval-missing (a .t) (a .mem .now) (c .before .before .before .before .pre .0) (g .0 .0) (peerOf (a .p)) (gap-of (a .t) (a .p .node) (g .0 .0) (c .before .before .find .result) (g .1) (c .before .before .find .ensures))), omega arith)
+    sym (interval-missing (a .t) (a .mem .now) (c .before .before .before .before .pre .0) (g .0 .0) (peerOf (a .p)) (gap-of (a .t) (a .p .node) (g .0 .0) (c .before .before .find .result) (g .1) (c .before .before .find .ensures)))
 
 pub interval-of-spec : {M : Type 1} → statement M
 interval-of-spec =

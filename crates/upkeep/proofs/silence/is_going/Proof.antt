@@ -25,7 +25,7 @@ is-silent-requires c κs = search needs
 returns-2 : tie.Need-returns-2
 returns-2 c =
     let a = c .before .before .before .before .before .before .args in
-    c .is-silent .ensures ∙ ap (λ (n : ℕ). silentFor n (a .clock - a .p .contact)) (c .before .before .interval-of .ensures .0)
+    c .is-silent .ensures ∙ ap (λ (n : ℕ). silentFor n (a .clock - a .p .contact)) (c .before .before .interval-of .ensures)
     ∙ sym (goes-here (a .clock) (a .endpoint) (view (a .t) (a .mem .now)) (peerOf (a .p)) (c .before .before .before .if1 .left))
 
 pub is-going-spec : {M : Type 1} → statement M
