@@ -160,7 +160,7 @@ asked = endpointTlv 1 1 ++ requestNetworkTlv
 abbrev pub waiting : Endpoint
 waiting = record { trickle = record { start = 20000; point = 6400; interval = 12800; count = 1; spent = false }; next = 0; keep = usualInterval; quiet = 57 }
 
--- after the choice of an interval for endpoint 2, and of the usual one after it
+-- after the choice of an interval for endpoint 2
 abbrev pub chooser : State
 chooser = keepAlive 1 2 5000 noughts4 tableBytes first .state
 

@@ -110,22 +110,25 @@ module _ (i n : ℕ) (d : List ℕ) (g : good dataLimit d ≡ true) (r : Span) (
         ∙ ap (λ (x : List ℕ). withTlv x (cut d (r .start) (r .size))) (take-all keepAliveBytes (keepAliveTlv i n) (omega (arith, alive-length i n)))
         ∙ ap (withTlv (keepAliveTlv i n)) (h .rest) ∙ sym (kept-other i n d (eqb-false n usualInterval b)))
 
--- the number
-module _ (clock i n : ℕ) (s : ModelState) (mid : Midway clock s) (r : Span) (h : KeepAliveStands i (ownData s) r) (d : List ℕ) (e : d ≡ ownData s) (size : ℕ)
+-- their length, as it is worked out
+module _ (clock i n : ℕ) (s : ModelState) (mid : Midway clock s) (r : Span) (d : List ℕ) (e : d ≡ ownData s) (h : KeepAliveStands i d r) (size : ℕ)
     (q : size ≡ cond (eqb n usualInterval) 0 keepAliveBytes) where
-  length-is : length (withKeepAlive i n (ownData s)) ≡ length d - r .size + size
-  length-is = come-to i n (ownData s) (midway-own s mid .fine) r h size q ∙ ap (λ (x : List ℕ). length x - r .size + size) (sym e)
-
   pub come-small : length d - r .size + size < 2048
   come-small =
       let l : length d ≤ dataLimit = rw e (good-fits dataLimit (ownData s) (midway-own s mid .fine)) in
       omega (arith, l, size-small n size q)
 
-  pub refused-full : publishLimit < length d - r .size + size → 9 ≡ firstOf (noRoom i n s ∷ [])
-  refused-full l = sym (rw (lt-ltb publishLimit (length (withKeepAlive i n (ownData s))) (omega (arith, length-is, l))))
+  pub length-is : length d - r .size + size ≡ length (withKeepAlive i n (ownData s))
+  length-is =
+      ap (λ (x : List ℕ). length x - r .size + size) e ∙ sym (come-to i n (ownData s) (midway-own s mid .fine) r (stands-in i (ownData s) d r e h) size q)
 
-  pub refused-not : length d - r .size + size ≤ publishLimit → 0 ≡ firstOf (noRoom i n s ∷ [])
-  refused-not l = sym (rw (le-ltb publishLimit (length (withKeepAlive i n (ownData s))) (omega (arith, length-is, l))))
+-- the number
+module _ (i n : ℕ) (s : ModelState) (k : ℕ) (q : k ≡ length (withKeepAlive i n (ownData s))) where
+  pub refused-full : publishLimit < k → 9 ≡ firstOf (noRoom i n s ∷ [])
+  refused-full l = sym (rw (lt-ltb publishLimit (length (withKeepAlive i n (ownData s))) (omega (arith, q, l))))
+
+  pub refused-not : k ≤ publishLimit → 0 ≡ firstOf (noRoom i n s ∷ [])
+  refused-not l = sym (rw (le-ltb publishLimit (length (withKeepAlive i n (ownData s))) (omega (arith, q, l))))
 
 -- ---- the choice
 

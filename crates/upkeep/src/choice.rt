@@ -60,15 +60,23 @@ fn standing(ours: &[u8], endpoint: u32, keep: u32) -> Span
     }
 }
 
+// How long our data come to be with the interval.
+fn length_with(s: State, mem: &[u8], clock: u64, endpoint: u32, interval: u32) -> usize
+    requires { ⌜ Rep s (now mem) × (Midway clock (stateOf s (now mem)) × ((1 ≤ endpoint) × (endpoint ≤ mostEndpoints))) ⌝ }
+    ensures { λ r. ⌜ r ≡ length (withKeepAlive endpoint interval (ownData (stateOf s (now (mem .entry))))) ⌝ }
+{
+    let e = endpoint_at(s, endpoint);
+    let ours = own_data(s, mem);
+    let old = standing(ours, endpoint, e.keep);
+    ours.len() - old.size + size_of(interval)
+}
+
 // 9 if our data have no room for the TLV, else 0.
 pub fn refusal(s: State, mem: &[u8], clock: u64, endpoint: u32, interval: u32) -> u32
     requires { ⌜ Rep s (now mem) × (Midway clock (stateOf s (now mem)) × ((1 ≤ endpoint) × (endpoint ≤ mostEndpoints))) ⌝ }
     ensures { λ r. ⌜ r ≡ firstOf (noRoom endpoint interval (stateOf s (now (mem .entry))) ∷ []) ⌝ }
 {
-    let e = endpoint_at(s, endpoint);
-    let ours = own_data(s, mem);
-    let old = standing(ours, endpoint, e.keep);
-    if PUBLISH_LIMIT < ours.len() - old.size + size_of(interval) {
+    if PUBLISH_LIMIT < length_with(s, mem, clock, endpoint, interval) {
         return DATA_FULL;
     }
     0
