@@ -60,10 +60,10 @@ extern "C" {
 #define PINGVRATHA_ANSWER
 #endif
 
-#define PINGVRATHA_VERSION "0.4.0"
+#define PINGVRATHA_VERSION "0.4.1"
 #define PINGVRATHA_VERSION_MAJOR 0
 #define PINGVRATHA_VERSION_MINOR 4
-#define PINGVRATHA_VERSION_PATCH 0
+#define PINGVRATHA_VERSION_PATCH 1
 
 /* ---- The figures of documents 01 and 02. */
 
@@ -118,8 +118,8 @@ extern "C" {
 /* The largest age that is sent or saved. */
 #define PINGVRATHA_MOST_AGE UINT64_C(4294967295)
 
-/* The keep-alive interval, in milliseconds, of an endpoint that publishes no Keep-Alive TLV: a
- * peer's, and ours at first. */
+/* The keep-alive interval, in milliseconds, of an endpoint for which its node publishes no
+ * Keep-Alive TLV: a peer's, and ours at first. */
 #define PINGVRATHA_USUAL_INTERVAL 20000
 
 /* The shortest keep-alive interval that can be chosen. */

@@ -135,13 +135,22 @@ struct Sides {
 
 impl Sides {
     fn new(line: &Line) -> Sides {
-        let snapshot = line.snapshot();
+        Sides::joined(line.snapshot(), &network::neighbour(), line.length)
+    }
+
+    /// One link with as many peers as there may be.
+    fn crowd() -> Sides {
+        Sides::joined(network::crowd(), &network::neighbours(), 17)
+    }
+
+    /// Resumed, and once this datagram is heard as many nodes are reachable.
+    fn joined(snapshot: Vec<u8>, heard: &[u8], reachable: usize) -> Sides {
         let (mut ours, mut theirs) = (Ours::blank(), Node::blank());
-        join(&mut ours, &snapshot);
-        join(&mut theirs, &snapshot);
+        join(&mut ours, &snapshot, heard);
+        join(&mut theirs, &snapshot, heard);
         let marks = ours.node.marks(CLOCK).expect("nothing is refused here");
-        assert_eq!(marks.nodes().len(), line.length);
-        assert_eq!(theirs.reachable(CLOCK).len(), line.length);
+        assert_eq!(marks.nodes().len(), reachable);
+        assert_eq!(theirs.reachable(CLOCK).len(), reachable);
         Sides {
             ours,
             theirs,
@@ -158,10 +167,10 @@ impl Sides {
     }
 }
 
-/// Resumes, and hears the first neighbour, so that all nodes are reachable.
-fn join(side: &mut impl Side, snapshot: &[u8]) {
+/// Resumes, and hears the neighbours, so that all nodes are reachable.
+fn join(side: &mut impl Side, snapshot: &[u8], heard: &[u8]) {
     side.resume(snapshot, CLOCK);
-    side.receive(&network::neighbour(), CLOCK, false);
+    side.receive(heard, CLOCK, false);
 }
 
 // ---- Times
@@ -271,6 +280,7 @@ fn compare_calls(pair: &Sides, full: &Sides) {
         received(many_equal),
     );
     row("tick, 32 nodes", full, Work::Tick(100));
+    row("tick, 16 full peers", &Sides::crowd(), Work::Tick(100));
     row("save, 32 full nodes", full, Work::Save);
     row(
         "resume, 32 full nodes",

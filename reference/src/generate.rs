@@ -11,7 +11,10 @@ mod craft;
 mod mesh;
 
 use crate::calls::Rooms;
-use crate::node::{Randoms, AGE_LIMIT, CLOCK_MAX, MAX_NODES, REPUBLISH_AGE};
+use crate::node::{
+    published_intervals, Peer, Randoms, AGE_LIMIT, CLOCK_MAX, DEFAULT_KEEP_ALIVE, MAX_NODES,
+    REPUBLISH_AGE,
+};
 use crate::random::Random;
 use crate::script::{from_hex, hex, Session, ROOMS_MAX};
 use crate::wire;
@@ -48,7 +51,7 @@ impl Generator {
     fn episode(&mut self) {
         let calls = self.random.range(20, 150) as usize;
         let end = self.left.saturating_sub(calls);
-        match self.random.below(17) {
+        match self.random.below(20) {
             0..=4 => mesh::episode(self, end),
             5..=6 => self.statements_episode(end),
             7 => self.full_table_episode(end),
@@ -57,8 +60,8 @@ impl Generator {
             10 => self.refusals_episode(end),
             11 => self.tree_episode(end),
             12 => self.quiet_episode(end),
-            13 => self.silence_episode(end),
-            14 | 15 => self.keep_alives_episode(end),
+            13..=16 => self.silence_episode(end),
+            17 | 18 => self.keep_alives_episode(end),
             _ => self.snapshots_episode(end),
         }
         self.restore_rooms();
@@ -222,6 +225,9 @@ impl Generator {
             let endpoint = self.endpoint();
             return self.wait_for_keep_alive(endpoint);
         }
+        if self.random.one_in(25) {
+            return self.wait_for_some_silence();
+        }
         let step = match self.random.below(40) {
             0..=9 => 0,
             10..=24 => self.random.below(150),
@@ -239,6 +245,35 @@ impl Generator {
         let due = self.session.node.keep_alives[endpoint as usize - 1].due();
         let late = self.random.pick(&[0, 1, 1, 1, 2]);
         self.clock = (due + late - 1).clamp(self.clock, CLOCK_MAX);
+    }
+
+    /// Waits for the silence of one of the peers, if there are any.
+    fn wait_for_some_silence(&mut self) {
+        let peers = self.session.node.peers.clone();
+        if !peers.is_empty() {
+            let peer = self.random.pick(&peers);
+            self.wait_for_silence(&peer);
+        }
+    }
+
+    /// Waits until just before or at the silence at which a peer goes by its interval, or would
+    /// go by the default or another interval in its data.
+    fn wait_for_silence(&mut self, peer: &Peer) {
+        let node = &self.session.node;
+        let right = node.peer_interval(peer);
+        let mut intervals = vec![right, right, DEFAULT_KEEP_ALIVE];
+        if let Some(entry) = node.entry(peer.node) {
+            intervals.extend(published_intervals(entry.data()).iter().map(|pair| pair[1]));
+        }
+        let mut readings: Vec<u64> = intervals
+            .iter()
+            .map(|&interval| peer.contact + (21 * u64::from(interval)).div_ceil(10))
+            .collect();
+        readings.retain(|&reading| reading > self.clock);
+        if !readings.is_empty() {
+            let early = self.random.below(2);
+            self.clock = (self.random.pick(&readings) - early).min(CLOCK_MAX);
+        }
     }
 
     /// A leap of the clock, often to where an age limit is just reached.
@@ -304,8 +339,14 @@ impl Generator {
         let own = self.session.node.own;
         let mut tlvs = Vec::new();
         for peer in self.session.node.peers.clone() {
-            if peer.node == node && !self.random.one_in(8) {
+            if peer.node != node {
+                continue;
+            }
+            if !self.random.one_in(8) {
                 tlvs.push(wire::peer_tlv(own, peer.ours, peer.theirs));
+            }
+            if self.random.one_in(3) {
+                tlvs.extend(craft::keep_alives(&mut self.random, peer.theirs));
             }
         }
         for other in self.universe.clone() {
@@ -444,12 +485,16 @@ impl Generator {
         bytes
     }
 
-    /// Makes us known to some nodes of the universe.
+    /// Makes us known to some nodes of the universe, sometimes from an odd endpoint of theirs.
     fn gain_peers(&mut self, count: usize) {
         for _ in 0..count {
             let endpoint = self.endpoint();
             let node = self.random.pick(&self.universe);
-            let theirs = Generator::link_endpoint(node, self.session.node.own);
+            let theirs = if self.random.one_in(5) {
+                self.random.pick(&[0, 0, 9])
+            } else {
+                Generator::link_endpoint(node, self.session.node.own)
+            };
             let datagram = wire::node_endpoint_tlv(node, theirs);
             self.receive(endpoint, false, &datagram);
         }
@@ -704,7 +749,7 @@ impl Generator {
         }
     }
 
-    /// Peers with Keep-Alive TLVs of their own, and ticks just before and at their removal.
+    /// Peers with Keep-Alive TLVs, and ticks around the readings at which they go or would go.
     fn silence_episode(&mut self, end: usize) {
         self.start_among(6);
         while self.left > end {
@@ -715,15 +760,7 @@ impl Generator {
             }
             let peer = self.random.pick(&peers);
             match self.random.below(10) {
-                0..=2 => {
-                    let data = self.keep_alives(peer.theirs);
-                    let seq = self
-                        .session
-                        .node
-                        .entry(peer.node)
-                        .map_or(0, |held| held.seq.wrapping_add(1));
-                    self.tell(peer.node, seq, &data);
-                }
+                0..=2 => self.tell_intervals(&peer),
                 3 => {
                     let digest = self.session.node.network_digest(self.clock);
                     let sender = wire::node_endpoint_tlv(peer.node, peer.theirs);
@@ -734,37 +771,31 @@ impl Generator {
                     );
                 }
                 4 if self.random.one_in(4) => self.purge(),
+                4 if self.random.one_in(4) => self.advance(),
                 5 => self.look(),
                 _ => {
-                    let interval = self.session.node.peer_interval(&peer);
-                    let silence = (21 * u64::from(interval)).div_ceil(10);
-                    let early = self.random.pick(&[0, 0, 1]);
-                    self.clock = (peer.contact + silence)
-                        .saturating_sub(early)
-                        .clamp(self.clock, CLOCK_MAX);
+                    self.wait_for_silence(&peer);
                     self.tick(peer.ours);
                 }
             }
         }
     }
 
-    /// Data with Keep-Alive TLVs, most of them for this endpoint.
-    fn keep_alives(&mut self, endpoint: u32) -> Vec<u8> {
-        let mut tlvs = Vec::new();
-        for _ in 0..self.random.below(4) {
-            let endpoint = self.random.pick(&[endpoint, endpoint, endpoint, 0, 1, 4]);
-            let interval = self
-                .random
-                .pick(&[0, 1, 3, 10, 100, 1_000, 20_000, u32::MAX]);
-            let tlv = wire::keep_alive_tlv(endpoint, interval);
-            let resize = self.random.one_in(5);
-            tlvs.push(if resize {
-                craft::resized(&mut self.random, &tlv)
-            } else {
-                tlv
-            });
+    /// A newer statement of a peer's node with Keep-Alive TLVs, often right after a contact.
+    fn tell_intervals(&mut self, peer: &Peer) {
+        let mut tlvs = craft::keep_alives(&mut self.random, peer.theirs);
+        let node = &self.session.node;
+        if self.random.one_in(2) {
+            tlvs.push(wire::peer_tlv(node.own, peer.ours, peer.theirs));
         }
-        craft::good_data(tlvs)
+        let data = craft::good_data(tlvs);
+        let held = node.entry(peer.node);
+        let seq = held.map_or(0, |held| held.seq.wrapping_add(1));
+        if self.random.one_in(2) {
+            let sender = wire::node_endpoint_tlv(peer.node, peer.theirs);
+            self.receive(peer.ours, false, &sender);
+        }
+        self.tell(peer.node, seq, &data);
     }
 
     /// Our own data at the edge of its 1,024 bytes, and statements of that size.

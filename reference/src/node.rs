@@ -37,6 +37,10 @@ pub const AGE_LIMIT: u64 = (1 << 32) - (1 << 15);
 pub const REPUBLISH_AGE: u64 = (1 << 32) - (1 << 16);
 /// Keep-alive interval of an endpoint for which no other is published, a peer's or ours.
 pub const DEFAULT_KEEP_ALIVE: u32 = 20_000;
+/// The interval of an endpoint on which no keep-alives are sent.
+const NO_KEEP_ALIVES: u32 = 0;
+/// In a Keep-Alive TLV: all endpoints that have none of their own.
+pub(crate) const ALL_ENDPOINTS: u32 = 0;
 /// The longest keep-alive interval that we may choose; the shortest is 1.
 pub const KEEP_ALIVE_MAX: u32 = 600_000;
 /// How many delays of a keep-alive there are: 0 to half of the shortest Trickle interval.
@@ -391,13 +395,23 @@ pub fn household_totals(reachable: &[&Entry]) -> (BTreeMap<u32, i64>, usize) {
     (totals, unreadable)
 }
 
-/// The keep-alive interval published for an endpoint: the first in data order.
-fn keep_alive_interval(data: &[u8], endpoint: u32) -> u32 {
+/// The (endpoint, interval) of each Keep-Alive TLV in node data.
+pub(crate) fn published_intervals(data: &[u8]) -> Vec<[u32; 2]> {
     wire::tlvs_of(data)
         .iter()
         .filter(|tlv| tlv.kind == wire::KEEP_ALIVE && tlv.value.len() >= 8)
-        .find(|tlv| wire::word(tlv.value, 0) == endpoint)
-        .map_or(DEFAULT_KEEP_ALIVE, |tlv| wire::word(tlv.value, 1))
+        .map(|tlv| [0, 1].map(|index| wire::word(tlv.value, index)))
+        .collect()
+}
+
+/// The keep-alive interval of an endpoint of the node with this data.
+fn keep_alive_interval(data: &[u8], endpoint: u32) -> u32 {
+    let published = published_intervals(data);
+    let first_for = |wanted| published.iter().find(|&&[endpoint, _]| endpoint == wanted);
+    // One search for both would find the TLV for all endpoints, which mostly stands first.
+    first_for(endpoint)
+        .or_else(|| first_for(ALL_ENDPOINTS))
+        .map_or(DEFAULT_KEEP_ALIVE, |&[_, interval]| interval)
 }
 
 /// A received Node State of length 28 or more.
@@ -798,9 +812,8 @@ impl Node {
 
     /// Our data with the Keep-Alive TLV of an endpoint replaced; the default needs none.
     fn data_with_interval(&self, endpoint: u32, interval: u32) -> Vec<u8> {
-        // Ours are all written here, so they have their 8 bytes.
         let mut data = wire::without(&self.own_entry().data, |tlv| {
-            tlv.kind == wire::KEEP_ALIVE && wire::word(tlv.value, 0) == endpoint
+            tlv.kind == wire::KEEP_ALIVE && tlv.value.starts_with(&endpoint.to_be_bytes())
         });
         if interval != DEFAULT_KEEP_ALIVE {
             wire::insert(&mut data, &wire::keep_alive_tlv(endpoint, interval));
@@ -847,7 +860,7 @@ impl Node {
         bytes
     }
 
-    /// The keep-alive interval of a peer: from the table, reachable or not.
+    /// The keep-alive interval of a peer: from the data held now, reachable or not.
     pub(crate) fn peer_interval(&self, peer: &Peer) -> u32 {
         match self.entry(peer.node) {
             Some(entry) => keep_alive_interval(&entry.data, peer.theirs),
@@ -858,7 +871,9 @@ impl Node {
     fn is_silent(&self, peer: &Peer, now: u64) -> bool {
         let interval = self.peer_interval(peer);
         // Ten times the silence may go beyond 64 bits.
-        10 * u128::from(now - peer.contact) >= 21 * u128::from(interval)
+        let long = 10 * u128::from(now - peer.contact) >= 21 * u128::from(interval);
+        // Without keep-alives silence tells nothing, however long.
+        long && interval != NO_KEEP_ALIVES
     }
 
     /// Removes the silent peers of an endpoint and their Peer TLVs; tells whether any went.

@@ -1,9 +1,11 @@
-//! The 13 marked examples of document 01, and its example of the program `totals`.
+//! The 13 marked examples of document 01, its example of the program `totals`, and the intervals
+//! of request 2 of document 02.
 
-use reference::node::{levels, Entry, Node, REPLY_ROOM, TABLE_ROOM};
+use reference::node::{levels, Entry, Node, CLOCK_MAX, REPLY_ROOM, TABLE_ROOM};
 use reference::script::from_hex;
+use reference::sha256::digest;
 use reference::totals;
-use reference::wire::{self, fold, older, peer_tlv, unfold, Payment};
+use reference::wire::{self, fold, keep_alive_tlv, older, peer_tlv, unfold, Payment};
 
 fn groups(number: u32) -> Vec<u8> {
     let mut bytes = Vec::new();
@@ -120,6 +122,49 @@ fn example_13_default_interval() {
     assert_eq!(node.peers.len(), 1);
     node.tick(TABLE_ROOM, REPLY_ROOM, 1_000 + 42_000, 1, &[0; 4]);
     assert_eq!(node.peers.len(), 0);
+}
+
+/// Whether a peer from this endpoint, with these TLVs as its data, still stands after a silence.
+fn stands_after(silence: u64, theirs: u32, tlvs: &[&[u8]]) -> bool {
+    let mut node = Node::blank();
+    let data = tlvs.concat();
+    let mut datagram = wire::node_endpoint_tlv(2, theirs);
+    datagram.extend(wire::node_state_tlv(2, 1, 0, &digest(&data), &data));
+    node.receive(TABLE_ROOM, REPLY_ROOM, &datagram, 0, 1, false, &[0; 4]);
+    assert_eq!(node.show(TABLE_ROOM, 2), data);
+    node.tick(TABLE_ROOM, REPLY_ROOM, silence, 1, &[0; 4]);
+    node.peers.len() == 1
+}
+
+#[test]
+fn request_2_intervals() {
+    let check = |theirs, tlvs: &[&[u8]], silence| {
+        assert!(stands_after(silence - 1, theirs, tlvs));
+        assert!(!stands_after(silence, theirs, tlvs));
+    };
+    let longer = bytes("0009000c000000030000000100290000");
+    let short = bytes("000900060000000300000000");
+    check(3, &[&keep_alive_tlv(0, 7), &keep_alive_tlv(3, 9)], 19);
+    check(4, &[&keep_alive_tlv(0, 7), &keep_alive_tlv(3, 9)], 15);
+    check(3, &[&keep_alive_tlv(0, 5), &longer], 3);
+    check(3, &[&keep_alive_tlv(0, 0), &keep_alive_tlv(3, 9)], 19);
+    check(3, &[&keep_alive_tlv(0, 6), &keep_alive_tlv(0, 9)], 13);
+    check(3, &[&short, &keep_alive_tlv(0, 6)], 13);
+    check(3, &[&short, &keep_alive_tlv(4, 0)], 42_000);
+    check(0, &[&keep_alive_tlv(0, 6), &keep_alive_tlv(3, 9)], 13);
+}
+
+#[test]
+fn request_2_interval_0() {
+    for silence in [0, 15, 42_000, CLOCK_MAX] {
+        assert!(stands_after(silence, 3, &[&keep_alive_tlv(0, 0)]));
+        assert!(stands_after(silence, 0, &[&keep_alive_tlv(0, 0)]));
+        assert!(stands_after(
+            silence,
+            3,
+            &[&keep_alive_tlv(0, 7), &keep_alive_tlv(3, 0)]
+        ));
+    }
 }
 
 #[test]

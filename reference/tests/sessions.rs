@@ -2,13 +2,13 @@
 
 use reference::generate;
 use reference::node::{
-    Node, CLOCK_MAX, DEFAULT_KEEP_ALIVE, INTERVAL_MAX, INTERVAL_MIN, KEEP_ALIVE_MAX, MAX_NODES,
-    MAX_PEERS, REPLY_ROOM, TABLE_ROOM,
+    Node, Peer, CLOCK_MAX, DEFAULT_KEEP_ALIVE, INTERVAL_MAX, INTERVAL_MIN, KEEP_ALIVE_MAX,
+    MAX_NODES, MAX_PEERS, REPLY_ROOM, TABLE_ROOM,
 };
 use reference::random::Random;
 use reference::script::{parse, Line, Session};
 use reference::wire;
-use std::collections::BTreeSet;
+use std::collections::{BTreeMap, BTreeSet};
 
 /// What every call keeps.
 fn check_state(node: &Node) {
@@ -140,6 +140,16 @@ fn three_ticks_then_nothing() {
     assert!(third > 0, "sometimes the third sends");
 }
 
+/// Reading and endpoint of a tick that was accepted.
+fn accepted_tick(line: &str, answer: &str) -> Option<(u64, u32)> {
+    match parse(line)? {
+        Line::Tick {
+            clock, endpoint, ..
+        } if answer.starts_with("tick 0") => Some((clock, endpoint)),
+        _ => None,
+    }
+}
+
 /// Keep-alives are sent with and without a reset, at the first reading at which they are due and
 /// not one earlier; choices meet each of their numbers.
 #[test]
@@ -155,15 +165,9 @@ fn sessions_meet_keep_alives() {
             if answer.starts_with("keep-alive") {
                 answers.insert(answer.clone());
             }
-            let Some(Line::Tick {
-                clock, endpoint, ..
-            }) = parse(line)
-            else {
+            let Some((clock, endpoint)) = accepted_tick(line, &answer) else {
                 continue;
             };
-            if !answer.starts_with("tick 0") {
-                continue;
-            }
             let index = endpoint as usize - 1;
             let due = before.keep_alives[index].due();
             // After a send point of Trickle's own it would be spent.
@@ -183,6 +187,97 @@ fn sessions_meet_keep_alives() {
     assert!(just_due.iter().all(|&count| count > 50), "{just_due:?}");
     let numbers = [0, 1, 12, 2, 3, 4, 9].map(|number| format!("keep-alive {number}\n"));
     assert!(answers.iter().eq(&numbers), "{answers:?}");
+}
+
+/// Where the interval of a peer is from. The earlier one counts.
+#[derive(Clone, Copy, Debug, PartialEq, Eq, PartialOrd, Ord)]
+enum Source {
+    Endpoint,
+    AllEndpoints,
+    NoTlv,
+    NotHeld,
+}
+
+/// The interval of a peer, found in one walk through its data.
+fn interval_of(node: &Node, peer: &Peer) -> (Source, u32) {
+    let Some(entry) = node.entry(peer.node) else {
+        return (Source::NotHeld, DEFAULT_KEEP_ALIVE);
+    };
+    let mut found = (Source::NoTlv, DEFAULT_KEEP_ALIVE);
+    for tlv in wire::tlvs_of(entry.data()) {
+        if tlv.kind != wire::KEEP_ALIVE || tlv.value.len() < 8 {
+            continue;
+        }
+        let source = match wire::word(tlv.value, 0) {
+            endpoint if endpoint == peer.theirs => Source::Endpoint,
+            0 => Source::AllEndpoints,
+            _ => continue,
+        };
+        if source < found.0 {
+            found = (source, wire::word(tlv.value, 1));
+        }
+    }
+    found
+}
+
+/// A silence beside the limit of its interval.
+#[derive(Clone, Copy, Debug, PartialEq, Eq, PartialOrd, Ord)]
+enum Silence {
+    Short,
+    JustShort,
+    JustLong,
+    Long,
+    /// Interval 0, but the limit of the default is reached.
+    Endless,
+}
+
+impl Silence {
+    fn new(silence: u64, interval: u32) -> Silence {
+        let limit = (21 * u64::from(interval)).div_ceil(10);
+        match interval {
+            0 if silence >= 42_000 => Silence::Endless,
+            0 => Silence::Short,
+            _ if silence == limit => Silence::JustLong,
+            _ if silence > limit => Silence::Long,
+            _ if silence + 1 == limit => Silence::JustShort,
+            _ => Silence::Short,
+        }
+    }
+
+    fn is_over(self) -> bool {
+        [Silence::JustLong, Silence::Long].contains(&self)
+    }
+}
+
+/// A tick removes the peers of its endpoint that are silent for too long, and no others. Intervals
+/// of each source meet both sides of their limit, and interval 0 meets long silences.
+#[test]
+fn sessions_meet_silences() {
+    let mut met = BTreeMap::new();
+    for seed in 400..408 {
+        let mut session = Session::default();
+        for line in generate::script(seed, 3_000).lines() {
+            let before = session.node.clone();
+            let answer = session.run_line(line);
+            let Some((clock, endpoint)) = accepted_tick(line, &answer) else {
+                continue;
+            };
+            let mut kept = before.peers.clone();
+            kept.retain(|peer| {
+                if peer.ours != endpoint {
+                    return true;
+                }
+                let (source, interval) = interval_of(&before, peer);
+                let silence = Silence::new(clock - peer.contact, interval);
+                *met.entry((source, silence)).or_insert(0) += 1;
+                !silence.is_over()
+            });
+            assert_eq!(session.node.peers, kept, "{line}");
+        }
+    }
+    // Only a published interval can be 0.
+    assert_eq!(met.len(), 4 * 4 + 2, "{met:?}");
+    assert!(met.values().all(|&count| count > 20), "{met:?}");
 }
 
 /// The sum over all households is the sum of the totals, with one count for all.

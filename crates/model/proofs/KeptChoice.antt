@@ -9,7 +9,7 @@ use lib.ListN.{length, getD, set, length-set}
 use lib.Seq.{getD-set-same, getD-set-other}
 use lib.Dec.{eqb, leb}
 use borrow.Author.Tests.{eqb-true, eqb-false, eq-eqb, ne-eqb, ltb-false, leb-true, not-false}
-use Rattle.base.specs.Lists.{orElse, keep, joinAll, In, All}
+use Rattle.base.specs.Lists.{first, keep, joinAll, In, All}
 use Rattle.base.specs.Bytes.{u32At, big32, same}
 use Rattle.base.proofs.Tests.{no-way, by-test, and-left, and-right, no-not, not-no}
 use Rattle.base.proofs.Lists.{in-keep, keep-in, keep-same, by-first, all-set}
@@ -24,7 +24,7 @@ use Rattle.model.specs.Sequence.{advance}
 use Rattle.model.specs.State.{State, Endpoint, noEndpoint, endpointAt, withEndpoint, withKeep, ownSeq, ownData, publishAs, publish, peerTlv, withTlv, settle}
 use Rattle.model.specs.Refusals.{Row, late, back, noSuchEndpoint, noInterval, smallTable}
 use Rattle.model.specs.Begin.{Done}
-use Rattle.model.specs.Tick.{isKeepAlive, intervalIn}
+use Rattle.model.specs.Tick.{isKeepAlive, intervalFor, allEndpoints, intervalIn}
 use Rattle.model.specs.KeepAlive.{keepAliveTlv, keepAlives, withoutKeepAlive, withKeepAlive, withChoice, chosen, noRoom, refusalKeepAlive, keepAlive}
 use Rattle.model.specs.Invariant.{EndpointFits, Only, intervalsOf, Chosen, Midway, Valid}
 use Rattle.model.proofs.KeptParts.{none-applies, not-late, not-back, one-to-four, valid-midway, midway-own, publish-kept, advance-fits, endpoint-fits, settle-valid}
@@ -122,14 +122,22 @@ module _ (d : List ℕ) (es : List Endpoint) (c : Chosen d es) (i : ℕ) (low : 
           a .is ∙ ap (λ (j : ℕ). keepAliveTlv (1 + j) (getD es j noEndpoint .keep)) p ∙ ap (λ (k : ℕ). keepAliveTlv k had) back-one)
           (λ e. no-way (isKeepAlive i t) b (rw (a .is) (alive-other (1 + a .place) (getD es (a .place) noEndpoint .keep) i (eqb-false (1 + a .place) i e))))
 
+  -- none is for all endpoints
+  alive-none : intervalFor allEndpoints usualInterval (tlvs d) ≡ usualInterval
+  alive-none =
+      by-first (isKeepAlive allEndpoints) (tlvs d) (λ o. first (isKeepAlive allEndpoints) (tlvs d) ≡ o → intervalFor allEndpoints usualInterval (tlvs d) ≡ usualInterval)
+      (λ none e. rw e)
+      (λ t m b e. let a : Alive 1 es t = alive-of 1 es t (c t .0 (m, alive-nine allEndpoints t b)) in
+      no-way (isKeepAlive allEndpoints t) b (rw (a .is) (alive-other (1 + a .place) (getD es (a .place) noEndpoint .keep) allEndpoints (omega arith)))) refl
+
   -- what is read for the endpoint is its interval
   pub alive-read : intervalIn d i ≡ had
   unfolding intervalIn
   alive-read =
-      by-first (isKeepAlive i) (tlvs d) (λ o. orElse o usualInterval (λ t. u32At (valueOf t) 4) ≡ had)
-      (λ none. by-test (eqb had usualInterval) (λ b. sym (eqb-true had usualInterval b)) (λ b. no-way (isKeepAlive i (keepAliveTlv i had)) (alive-is i had)
-      (none (keepAliveTlv i had) (stands (eqb-false had usualInterval b)))))
-      (λ t m b. rw (alive-only t m b, alive-value i had) (omega arith))
+      by-first (isKeepAlive i) (tlvs d) (λ o. first (isKeepAlive i) (tlvs d) ≡ o → intervalIn d i ≡ had)
+      (λ none e. rw (e, alive-none) (by-test (eqb had usualInterval) (λ b. sym (eqb-true had usualInterval b))
+      (λ b. no-way (isKeepAlive i (keepAliveTlv i had)) (alive-is i had) (none (keepAliveTlv i had) (stands (eqb-false had usualInterval b))))))
+      (λ t m b e. rw (e, alive-only t m b, alive-value i had) (omega arith)) refl
     where
       stands : ¬ (had ≡ usualInterval) → In (keepAliveTlv i had) (tlvs d)
       stands ne =

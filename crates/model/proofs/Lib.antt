@@ -21,6 +21,7 @@ pub mod Totals
 pub mod Served
 pub mod Sent
 pub mod ThreeTicks
+pub mod Silence
 pub mod Readings
 pub mod Waiting
 pub mod Sendings

@@ -103,7 +103,7 @@ at clock unicast d = record { clock = clock; endpoint = 1; unicast = unicast; da
 abbrev pub greeting : List ℕ → List ℕ
 greeting digest = endpointTlv 2 7 ++ networkTlv digest
 
--- the network digest of any node that begins, one that no node has, the digest of nothing, and that of node 2's data
+-- the network digest of any node that begins, one that no node has, the digest of nothing, and those of two sets of node 2's data
 abbrev pub begun16 : List ℕ
 begun16 = 0x14 ∷ 0xda ∷ 0xbc ∷ 0x3b ∷ 0xb9 ∷ 0x47 ∷ 0x30 ∷ 0xad ∷ 0x66 ∷ 0xef ∷ 0x3e ∷ 0xec ∷ 0x7e ∷ 0xe3 ∷ 0xce ∷ 0xfb ∷ []
 
@@ -116,11 +116,14 @@ empty16 = 0xe3 ∷ 0xb0 ∷ 0xc4 ∷ 0x42 ∷ 0x98 ∷ 0xfc ∷ 0x1c ∷ 0x14 �
 abbrev pub theirs16 : List ℕ
 theirs16 = 0x9e ∷ 0xdd ∷ 0xa4 ∷ 0xab ∷ 0x90 ∷ 0x70 ∷ 0x19 ∷ 0x78 ∷ 0xe6 ∷ 0xa7 ∷ 0xf9 ∷ 0x5f ∷ 0x53 ∷ 0xb9 ∷ 0xd5 ∷ 0x6f ∷ []
 
+abbrev pub mute16 : List ℕ
+mute16 = 0x92 ∷ 0xae ∷ 0x51 ∷ 0x94 ∷ 0x8c ∷ 0xb5 ∷ 0x4c ∷ 0x84 ∷ 0xbc ∷ 0x44 ∷ 0x33 ∷ 0xca ∷ 0xa0 ∷ 0x74 ∷ 0x4c ∷ 0x53 ∷ []
+
 -- a Node State: the node, its number, the digest of its data, its data
 abbrev pub statement : ℕ → ℕ → List ℕ → List ℕ → List ℕ
 statement node n h d = encode 5 (big32 node ++ (big32 n ++ (big32 0 ++ (h ++ d))))
 
--- our state at first; after node 2's greeting at reading 0, and then its statement that we are its peer
+-- our state at first; after node 2's greeting at reading 0, and then its statement that we are its peer, or that it sends no keep-alives on any endpoint
 abbrev pub first : State
 first = begun 1 0 noughts4
 
@@ -129,6 +132,9 @@ second = receive (at 0 true (greeting foreign16)) first .state
 
 abbrev pub third : State
 third = receive (at 2 true (statement 2 5 theirs16 (names 1 1 7))) second .state
+
+abbrev pub mute : State
+mute = receive (at 2 true (statement 2 5 mute16 (keepAliveTlv 0 0))) second .state
 
 -- or from the first: after node 2's Node Endpoint by multicast, its statement that it publishes nothing, or the payment of the sample
 abbrev pub asker : State
@@ -195,9 +201,15 @@ pub record Session : Type 0 where
   pub silent : kept (tickedAt 41999 1 second) ≡ (neighbour ∷ [], entryOf 1 1 (names 2 7 1) (anew 0) ∷ [])
   pub elsewhere : kept (tickedAt 42000 2 second) ≡ (neighbour ∷ [], entryOf 1 1 (names 2 7 1) (anew 0) ∷ [])
   pub gone : kept (tickedAt 42000 1 second) ≡ ([], entryOf 1 2 [] (anew 42000) ∷ [])
-  -- a peer's interval is that of the first Keep-Alive TLV for its endpoint, else the usual
+  -- a peer's interval is that of the first Keep-Alive TLV for its endpoint, wherever it stands, else of the first for endpoint 0, else the usual
   pub interval : intervalIn (keepAliveTlv 6 1000 ++ (keepAliveTlv 7 3000 ++ keepAliveTlv 7 5000)) 7 ≡ 3000
   pub usual : intervalIn (keepAliveTlv 6 1000) 7 ≡ 20000
+  pub own : intervalIn (keepAliveTlv 0 7 ++ keepAliveTlv 3 9) 3 ≡ 9
+  pub all : intervalIn (keepAliveTlv 0 7 ++ keepAliveTlv 3 9) 4 ≡ 7
+  -- the TLV found decides, with 0 too; then the peer stays where it would have gone
+  pub ownZero : intervalIn (keepAliveTlv 0 7 ++ keepAliveTlv 3 0) 3 ≡ 0
+  pub allZero : intervalIn (keepAliveTlv 0 0) 3 ≡ 0
+  pub stays : tickedAt 42000 1 mute .peers ≡ neighbour ∷ []
   -- a sending fixes the delay, the random number modulo 101; the keep-alive comes 20,000 ms after both, not before, and starts an interval as long as it was
   pub delays : map (λ e. e .quiet) (freshEndpoints 0 (57 ∷ 150 ∷ 100 ∷ 101 ∷ [])) ≡ 57 ∷ 49 ∷ 100 ∷ 0 ∷ []
   pub early : endpointEvent 20056 9000 waiting ≡ record { sends = false; next = waiting .trickle }

@@ -1,7 +1,7 @@
 -- What is proved of the definitions, one statement each; the proofs are in proofs/. First the theorems 1 to 8, of which 3 stands in Delivery, then what
 -- is proved of single rules. Assumes nothing.
 use mathlib.Core.Path.{_≡_}
-use mathlib.Core.Bool.{true, false, cond}
+use mathlib.Core.Bool.{true, false, not, cond}
 use mathlib.Core.List.{List, [], _∷_, _++_, map}
 use mathlib.Core.Option.{none, some}
 use mathlib.Core.Logic.{_⊎_, _↔_}
@@ -10,7 +10,7 @@ use lib.ListN.{length, take, drop, replicate}
 use lib.IntN.{ℤ, pos, _+ℤ_}
 use lib.Dec.{eqb}
 use lib.Signed.{mag}
-use Rattle.base.specs.Lists.{all, joinAll, orElse, In, All}
+use Rattle.base.specs.Lists.{all, keep, joinAll, orElse, In, All}
 use Rattle.base.specs.Bytes.{Bytes, u32At, big32, same}
 use Rattle.base.specs.Signed.{sumℤ}
 use Rattle.base.specs.Sorted.{Ascending}
@@ -24,14 +24,14 @@ use Rattle.model.specs.Reach.{Vertex, vertices, levels, inReach, reached
 use Rattle.model.specs.Chain.{Chain}
 use Rattle.model.specs.Digest.{networkDigest}
 use Rattle.model.specs.Trickle.{Trickle}
-use Rattle.model.specs.State.{State, Endpoint, endpointAt, ownData, settle}
+use Rattle.model.specs.State.{State, Peer, Endpoint, endpointAt, ownData, settle}
 use Rattle.model.specs.Messages.{endpointTlv, networkTlv, shortState, wholeState}
 use Rattle.model.specs.Decide.{Received, Decision, receivedOf, decide}
 use Rattle.model.specs.Handle.{Context, Sender, Work, piece, reply, askNetwork, roomForPeer, greet, carryOut, oneTlv, allTlvs, onNetwork, digestNow}
 use Rattle.model.specs.Refusals.{Row, firstOf, late, back, noSuchEndpoint, smallTable, smallRoom, long, noRow, noHousehold, paidAlready, full, noInterval, noSuchNode}
 use Rattle.model.specs.Begin.{begun, begin, blank}
 use Rattle.model.specs.Receive.{Call, contextOf, startOf, receive}
-use Rattle.model.specs.Tick.{Sent, tick, ticked}
+use Rattle.model.specs.Tick.{Sent, intervalOf, goes, tick, ticked}
 use Rattle.model.specs.KeepAlive.{noRoom, keepAlive}
 use Rattle.model.specs.Pay.{pay, purge}
 use Rattle.model.specs.Totals.{isPayment, paymentsOf, totalOf, sumOf, paymentsIn, readable, unreadable, reachable, refusalTotal, total, refusalSum, sum}
@@ -255,6 +255,12 @@ pub record StatesReadBack : Type 0 where
   pub digest : (own clock : ℕ) (t : List Entry)
       → networkDigest own clock t ≡ hash16 (joinAll (map (λ e. big32 (e .says .seq) ++ hash16 (e .says .nodeData)) (reached own clock t)))
   pub alone : (own clock : ℕ) (e : Entry) → idOf e ≡ own → networkDigest own clock (e ∷ []) ≡ hash16 (big32 (e .says .seq) ++ hash16 (e .says .nodeData))
+
+-- A tick removes exactly the peers of its endpoint that have been silent too long; one with interval 0 stays through every tick, at any reading.
+pub record SilentPeersGo : Type 0 where
+  pub exactly : (clock i : ℕ) (randoms : List ℕ) (s : State) → ticked clock i randoms s .state .peers ≡ keep (λ p. not (goes clock i (s .table) p)) (s .peers)
+  pub never : (clock i : ℕ) (randoms : List ℕ) (table room : ℕ) (s : State) (p : Peer) → In p (s .peers) → intervalOf (s .table) p ≡ 0
+      → In p (tick clock i randoms table room s .state .peers)
 
 -- A new node that publishes nothing is taken at once from a Node State of 28 bytes, and not asked for again: once taken, the same Node State is ignored.
 pub record EmptyTaken : Type 0 where

@@ -1,4 +1,5 @@
--- A tick of one endpoint: silent peers go, then at most one event (document 01, Ticks; document 02, Keep quiet links alive; RFC 7787, 6.1.2 and 6.1.5).
+-- A tick of one endpoint: silent peers go, then at most one event (document 01, Ticks; document 02, Keep quiet links alive, The interval for all endpoints;
+-- RFC 7787, 6.1.2, 6.1.5 and 7.3.2).
 -- Assumes nothing.
 use mathlib.Core.Bool.{Bool, true, false, not, cond, _&&_, _||_}
 use mathlib.Core.List.{List, [], _∷_, _++_}
@@ -15,21 +16,29 @@ use Rattle.model.specs.State.{State, Peer, Endpoint, withPeers, endpoint
 use Rattle.model.specs.Messages.{endpointTlv, networkTlv}
 use Rattle.model.specs.Refusals.{firstOf, late, back, noSuchEndpoint, smallRoom}
 
--- ---- "the interval is in the peer's Keep-Alive TLV for its endpoint (the first), else 20,000"
+-- ---- "first the TLV for the peer's endpoint, then the one for 0, then 20,000", of several "(the first)"
 
 abbrev pub isKeepAlive : ℕ → List ℕ → Bool
 isKeepAlive endpoint t = (eqb (typeOf t) 9 && leb 8 (length (valueOf t))) && eqb (u32At (valueOf t) 0) endpoint
 
+-- what the first of these TLVs for the endpoint says, wherever it stands; `other` where there is none
+abbrev pub intervalFor : ℕ → ℕ → List (List ℕ) → ℕ
+intervalFor endpoint other ts = orElse (first (isKeepAlive endpoint) ts) other (λ t. u32At (valueOf t) 4)
+
+-- "0 stands for all endpoints without a TLV of their own"
+abbrev pub allEndpoints : ℕ
+allEndpoints = 0
+
 unfoldable pub intervalIn : List ℕ → ℕ → ℕ
-intervalIn d endpoint = orElse (first (isKeepAlive endpoint) (tlvs d)) usualInterval (λ t. u32At (valueOf t) 4)
+intervalIn d endpoint = intervalFor endpoint (intervalFor allEndpoints usualInterval (tlvs d)) (tlvs d)
 
 unfoldable pub intervalOf : List Entry → Peer → ℕ
 intervalOf t p = orElse (look (p .node) t) usualInterval (λ e. intervalIn (e .says .nodeData) (p .theirs))
 
--- ---- "remove every peer of the endpoint with 10 x silence at least 21 x interval, and its Peer TLV"
+-- ---- "remove every peer of the endpoint with 10 x silence at least 21 x interval, and its Peer TLV"; "with interval 0 the peer is never removed for silence"
 
 abbrev pub silentFor : ℕ → ℕ → Bool
-silentFor interval silence = leb (21 * interval) (10 * silence)
+silentFor interval silence = not (eqb interval 0) && leb (21 * interval) (10 * silence)
 
 unfoldable pub goes : ℕ → ℕ → List Entry → Peer → Bool
 goes clock endpoint t p = eqb (p .ours) endpoint && silentFor (intervalOf t p) (clock - p .contact)

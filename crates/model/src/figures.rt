@@ -51,7 +51,7 @@ pub const REFRESH_AGE: u64 = 4294901760;
 // The largest age that is sent or saved.
 pub const MOST_AGE: u64 = 4294967295;
 
-// The keep-alive interval, in milliseconds, of an endpoint that publishes no Keep-Alive TLV: a peer's, and ours at first.
+// The keep-alive interval, in milliseconds, of an endpoint for which its node publishes no Keep-Alive TLV: a peer's, and ours at first.
 pub const USUAL_INTERVAL: u32 = 20000;
 
 // The shortest keep-alive interval that can be chosen.

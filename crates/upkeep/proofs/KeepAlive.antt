@@ -1,5 +1,5 @@
 -- Keep-Alive intervals: the search for the TLV, and the interval of a peer's node. Assumes nothing.
-use mathlib.Core.Path.{_≡_, refl, sym, ap, _∙_}
+use mathlib.Core.Path.{_≡_, sym, ap, _∙_}
 use mathlib.Core.Bool.{Bool, true, false, _&&_}
 use mathlib.Core.List.{List}
 use Prim.Native.Nat.{ℕ, _+_, _-_, _*_, _/_, _≤_, _<_}
@@ -7,7 +7,6 @@ use native.Mathlib.Omega.{arith}
 use lib.ListN.{length, drop, length-drop}
 use lib.Dec.{eqb, leb}
 use borrow.Author.Tests.{eq-eqb, ne-eqb, le-leb, lt-leb, leb-true, leb-false}
-use Rattle.base.specs.Lists.{first, orElse}
 use Rattle.base.specs.Bytes.{u32At}
 use Rattle.base.proofs.Tests.{by-test, and-left, and-right}
 use Rattle.wire.specs.Row.{typeOf, valueOf, isRow, tlvs}
@@ -19,7 +18,7 @@ use Rattle.wire.proofs.Good.{good-row}
 use Rattle.model.specs.Figures.{usualInterval, dataLimit}
 use Rattle.model.specs.Table.{Entry}
 use Rattle.model.specs.State.{Peer as ModelPeer}
-use Rattle.model.specs.Tick.{isKeepAlive, intervalIn, intervalOf, silentFor, goes}
+use Rattle.model.specs.Tick.{isKeepAlive, intervalFor, allEndpoints, intervalIn, intervalOf, silentFor, goes}
 use Rattle.table.specs.View.{dataOf, metaAt, view, Kept, Stands, Gap, AllGood}
 use Rattle.table.specs.declared.Table.{Table}
 use Rattle.table.proofs.Tables.{look-stands, look-gap, view-each}
@@ -46,24 +45,21 @@ module _ (s : List ℕ) (at : ℕ) (h : Header) (k : Tells s at h) where
 
 -- ---- the search
 
--- the interval that these TLVs give
-abbrev pub given : List (List ℕ) → ℕ → ℕ
-given ts endpoint = orElse (first (isKeepAlive endpoint) ts) usualInterval (λ t. u32At (valueOf t) 4)
-
-pub given-start : (s : List ℕ) (endpoint : ℕ) → intervalIn s endpoint ≡ given (tlvs (drop 0 s)) endpoint
-unfolding intervalIn
-given-start s endpoint = refl
-
-module _ (s : List ℕ) (endpoint at : ℕ) where
-  pub given-end : length s ≤ at → given (tlvs (drop at s)) endpoint ≡ usualInterval
-  given-end p = rw (tlvs-end (drop at s) (simp length-drop (omega arith)))
+module _ (s : List ℕ) (endpoint other at : ℕ) where
+  pub for-end : length s ≤ at → intervalFor endpoint other (tlvs (drop at s)) ≡ other
+  for-end p = rw (tlvs-end (drop at s) (simp length-drop (omega arith)))
 
   module _ (h : Header) (k : Tells s at h) {b : Bool} (e : b ≡ isKeepAlive endpoint (tlvOf s at h)) where
-    pub given-here : b ≡ true → given (tlvs (drop at s)) endpoint ≡ u32At s (h .start + 4)
-    given-here t = ap (λ (ts : List (List ℕ)). given ts endpoint) (k .left) ∙ rw (sym e ∙ t) (value-number s at h k 4 (long-enough s at h k endpoint e t))
+    pub for-here : b ≡ true → intervalFor endpoint other (tlvs (drop at s)) ≡ u32At s (h .start + 4)
+    for-here t = ap (intervalFor endpoint other) (k .left) ∙ rw (sym e ∙ t) (value-number s at h k 4 (long-enough s at h k endpoint e t))
 
-    pub given-on : b ≡ false → given (tlvs (drop at s)) endpoint ≡ given (tlvs (drop (h .next) s)) endpoint
-    given-on t = ap (λ (ts : List (List ℕ)). given ts endpoint) (k .left) ∙ rw (sym e ∙ t)
+    pub for-on : b ≡ false → intervalFor endpoint other (tlvs (drop at s)) ≡ intervalFor endpoint other (tlvs (drop (h .next) s))
+    for-on t = ap (intervalFor endpoint other) (k .left) ∙ rw (sym e ∙ t)
+
+-- the endpoint's own, else that for all endpoints
+pub interval-is : (s : List ℕ) (endpoint all : ℕ) → all ≡ intervalFor allEndpoints usualInterval (tlvs s) → intervalFor endpoint all (tlvs s) ≡ intervalIn s endpoint
+unfolding intervalIn
+interval-is s endpoint all e = ap (λ (n : ℕ). intervalFor endpoint n (tlvs s)) e
 
 -- ---- the interval of a peer
 
@@ -84,12 +80,17 @@ module _ (t : Table) (m : List ℕ) (k : Kept t m) (i : ℕ) where
 
 -- ---- silence
 
--- without the product of the silence
-pub silent-by : (interval silence : ℕ) → leb ((21 * interval + 9) / 10) silence ≡ silentFor interval silence
-silent-by interval silence =
-    by-test (silentFor interval silence)
-    (λ e. let l : 21 * interval ≤ 10 * silence = leb-true (21 * interval) (10 * silence) e in rw e (le-leb ((21 * interval + 9) / 10) silence (omega arith)))
-    (λ e. let l : 10 * silence < 21 * interval = leb-false (21 * interval) (10 * silence) e in rw e (lt-leb ((21 * interval + 9) / 10) silence (omega arith)))
+module _ (interval silence : ℕ) where
+  pub never-silent : interval ≡ 0 → silentFor interval silence ≡ false
+  never-silent e = rw (eq-eqb interval 0 e)
+
+  -- without the product of the silence
+  pub silent-by : ¬ (interval ≡ 0) → leb ((21 * interval + 9) / 10) silence ≡ silentFor interval silence
+  silent-by n =
+      rw (ne-eqb interval 0 n)
+      (by-test (leb (21 * interval) (10 * silence))
+      (λ e. let l : 21 * interval ≤ 10 * silence = leb-true (21 * interval) (10 * silence) e in rw e (le-leb ((21 * interval + 9) / 10) silence (omega arith)))
+      (λ e. let l : 10 * silence < 21 * interval = leb-false (21 * interval) (10 * silence) e in rw e (lt-leb ((21 * interval + 9) / 10) silence (omega arith))))
 
 module _ (clock endpoint : ℕ) (t : List Entry) (p : ModelPeer) where
   pub goes-other : ¬ (p .ours ≡ endpoint) → goes clock endpoint t p ≡ false

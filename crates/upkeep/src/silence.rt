@@ -20,16 +20,19 @@ ghost use mathlib.Core.Bool.{true, _||_};
 ghost use Prim.Native.Nat.{_≤_, _<_};
 ghost use lib.Dec.{leb};
 ghost use Rattle.base.specs.Lists.{any};
-ghost use Rattle.wire.specs.Row.{isRow};
+ghost use Rattle.wire.specs.Row.{isRow, tlvs};
 ghost use Rattle.wire.specs.Answers.{tlvOf, Tells};
 ghost use Rattle.model.specs.Figures.{refreshAge, lastReading};
 ghost use Rattle.model.specs.Table.{ageAt};
 ghost use Rattle.model.specs.State.{ownEntry};
-ghost use Rattle.model.specs.Tick.{isKeepAlive, intervalIn, intervalOf, silentFor, goes, dropSilent};
+ghost use Rattle.model.specs.Tick.{isKeepAlive, intervalFor, intervalIn, intervalOf, silentFor, goes, dropSilent};
 ghost use Rattle.model.specs.Invariant.{Midway};
 ghost use Rattle.table.specs.View.{view, Kept, AllGood};
 ghost use Rattle.node.specs.View.{peerOf, stateOf, Rep, Published};
 ghost use Rattle.upkeep.specs.Ticked.{Lent, Scanned, Going};
+
+// A Keep-Alive TLV for this endpoint stands for every endpoint without one of its own.
+const ALL_ENDPOINTS: u32 = 0;
 
 // The TLV is a Keep-Alive TLV for the endpoint.
 fn is_keep_alive(nd: &[u8], at: usize, h: Header, endpoint: u32) -> bool
@@ -45,10 +48,10 @@ fn is_keep_alive(nd: &[u8], at: usize, h: Header, endpoint: u32) -> bool
     read_u32(nd, h.start) == endpoint
 }
 
-// The interval that node data give for an endpoint: the first Keep-Alive TLV's, else 20,000.
-pub fn interval_in(nd: &[u8], endpoint: u32) -> u32
+// What the first Keep-Alive TLV for the endpoint says, wherever it stands in the data; `other` if there is none.
+fn interval_for(nd: &[u8], endpoint: u32, other: u32) -> u32
     requires { ⌜ isRow (now nd) ≡ true ⌝ }
-    ensures { λ r. ⌜ r ≡ intervalIn (now (nd .entry)) endpoint ⌝ }
+    ensures { λ r. ⌜ r ≡ intervalFor endpoint other (tlvs (now (nd .entry))) ⌝ }
 {
     let mut at = 0;
     while at < nd.len() {
@@ -58,13 +61,26 @@ pub fn interval_in(nd: &[u8], endpoint: u32) -> u32
         }
         at = h.next;
     }
-    USUAL_INTERVAL
+    other
 }
 
-// 10 x silence is at least 21 x interval; the product of the silence could exceed 64 bits.
-pub fn is_silent(interval: u32, silence: u64) -> bool
+// The interval that node data give for an endpoint: its own TLV's, else that of the one for all endpoints, else 20,000. Two searches, since that one comes first
+// where data ascend.
+fn interval_in(nd: &[u8], endpoint: u32) -> u32
+    requires { ⌜ isRow (now nd) ≡ true ⌝ }
+    ensures { λ r. ⌜ r ≡ intervalIn (now (nd .entry)) endpoint ⌝ }
+{
+    let all = interval_for(nd, ALL_ENDPOINTS, USUAL_INTERVAL);
+    interval_for(nd, endpoint, all)
+}
+
+// 10 x silence is at least 21 x interval; the product of the silence could exceed 64 bits. With an interval of 0 no keep-alives come, and no silence is too long.
+fn is_silent(interval: u32, silence: u64) -> bool
     ensures { λ r. ⌜ r ≡ silentFor interval silence ⌝ }
 {
+    if interval == 0 {
+        return false;
+    }
     (21 * (interval as u64) + 9) / 10 <= silence
 }
 

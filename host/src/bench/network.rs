@@ -1,4 +1,5 @@
-//! What the benchmark's nodes hear: a line of nodes with full data, and datagrams about them.
+//! What the benchmark's nodes hear: a line of nodes with full data, or 16 of them on one link, and
+//! datagrams about them.
 
 use reference::node::{Entry, Randoms};
 use reference::sha256::{digest, Digest};
@@ -31,11 +32,14 @@ impl Line {
     }
 }
 
-/// Data of a node of a line: Peer TLVs, then payments; other receipts for another edition.
+/// Data of a node of a line; ours publishes its peer only later.
 fn data(node: u32, last: u32, edition: u32) -> Vec<u8> {
-    let mut tlvs = peers(node, last);
-    // Ours publishes its peer only later.
     let most = if node == 1 { MAX_DATA - 16 } else { MAX_DATA };
+    filled(peers(node, last), most, edition)
+}
+
+/// These Peer TLVs, then payments; other receipts for another edition.
+fn filled(mut tlvs: Vec<Vec<u8>>, most: usize, edition: u32) -> Vec<u8> {
     for number in 0..(most / 16 - tlvs.len()) as u32 {
         let payment = Payment {
             household: 1_000 + number % 50,
@@ -65,6 +69,25 @@ fn peers(node: u32, last: u32) -> Vec<Vec<u8>> {
 /// The datagram by which our neighbour becomes our peer.
 pub fn neighbour() -> Vec<u8> {
     wire::node_endpoint_tlv(2, 1)
+}
+
+/// The nodes of one link but ours, as many as may be peers.
+const CROWD: std::ops::RangeInclusive<u32> = 2..=17;
+
+/// Our node without data, and the others with as much as there may be, each naming ours.
+pub fn crowd() -> Vec<u8> {
+    let full = |node| filled(vec![wire::peer_tlv(1, 1, 1)], MAX_DATA, node);
+    let entry = |node| Entry::new(node, 0, 0, CLOCK, full(node));
+    let mut table = vec![Entry::new(1, 0, 0, CLOCK, Vec::new())];
+    table.extend(CROWD.map(entry));
+    snapshot::write(1, &table, CLOCK)
+}
+
+/// The datagram by which they become our peers.
+pub fn neighbours() -> Vec<u8> {
+    CROWD
+        .flat_map(|node| wire::node_endpoint_tlv(node, 1))
+        .collect()
 }
 
 /// Statements of the last node of a line, each newer than the one before, with 1,024 bytes.

@@ -1,5 +1,6 @@
 //! Made-up bytes: node data, odd TLVs, snapshots, and damage to them.
 
+use crate::node::ALL_ENDPOINTS;
 use crate::random::Random;
 use crate::wire::{self, Payment, MAX_DATA};
 
@@ -63,33 +64,54 @@ pub fn published_tlv(random: &mut Random) -> Vec<u8> {
     match random.below(12) {
         0..=4 => wire::payment_tlv(&payment(random)),
         5 => unreadable_payment(random),
-        6 | 7 => {
-            let interval = random.pick(&[0, 1, 10, 100, 1_000, 20_000, 600_000, u32::MAX]);
-            wire::keep_alive_tlv(endpoint, interval)
-        }
+        6 | 7 => keep_alive(random, endpoint),
         8 => {
             // Longer or shorter than its fixed value.
             let mut value = wire::peer_tlv(node, endpoint, endpoint)[4..].to_vec();
             value.resize(random.pick(&[0, 4, 11, 13, 16]), 0);
             wire::tlv(wire::PEER, &value)
         }
-        9 => {
-            let mut value = wire::keep_alive_tlv(endpoint, 50)[4..].to_vec();
-            value.resize(random.pick(&[0, 4, 7, 9, 12]), 0);
-            wire::tlv(wire::KEEP_ALIVE, &value)
-        }
+        9 => keep_alive(random, ALL_ENDPOINTS),
         10 => wire::peer_tlv(node, endpoint, endpoint),
         _ => odd_tlv(random),
     }
 }
 
-/// A type 9 TLV for any endpoint, with any interval, often of a wrong length.
+/// A type 9 TLV for an endpoint as another maker may publish it: often with interval 0,
+/// sometimes too short, sometimes with something after the interval.
+fn keep_alive(random: &mut Random, endpoint: u32) -> Vec<u8> {
+    let interval = match random.below(12) {
+        0..=3 => 0,
+        // Short ones, so that silence soon tells.
+        4..=8 => random.pick(&[1, 3, 10, 100, 1_000]),
+        _ => random.pick(&[5_000, 20_000, 600_000, u32::MAX]),
+    };
+    let mut value = wire::keep_alive_tlv(endpoint, interval)[4..].to_vec();
+    match random.below(8) {
+        0 => value.truncate(random.pick(&[0, 4, 6, 6, 7])),
+        1 => value.push(1),
+        2 => value.extend(wire::tlv(41, &[])),
+        _ => {}
+    }
+    wire::tlv(wire::KEEP_ALIVE, &value)
+}
+
+/// A type 9 TLV for an endpoint that may be none of ours.
 fn odd_keep_alive(random: &mut Random) -> Vec<u8> {
     let endpoint = random.pick(&[0, 1, 2, 3, 4, 5, 9, u32::MAX]);
-    let interval = random.pick(&[0, 1, 100, 20_000, 600_000, 600_001, u32::MAX]);
-    let mut value = wire::keep_alive_tlv(endpoint, interval)[4..].to_vec();
-    value.resize(random.pick(&[0, 4, 7, 8, 8, 8, 8, 9, 12]), 0);
-    wire::tlv(wire::KEEP_ALIVE, &value)
+    keep_alive(random, endpoint)
+}
+
+/// Type 9 TLVs for this endpoint, for all endpoints and for any one: none, one or two of each.
+pub fn keep_alives(random: &mut Random, endpoint: u32) -> Vec<Vec<u8>> {
+    let mut tlvs = Vec::new();
+    let any = random.range(1, 4) as u32;
+    for endpoint in [endpoint, ALL_ENDPOINTS, any] {
+        for _ in 0..random.below(3) {
+            tlvs.push(keep_alive(random, endpoint));
+        }
+    }
+    tlvs
 }
 
 /// A TLV of any type, with a value of any length that is small.

@@ -2,8 +2,9 @@
 //! on links where datagrams are lost, repeated, late and damaged.
 
 use super::{craft, Generator};
-use crate::node::{Node, CLOCK_MAX, REPLY_ROOM, TABLE_ROOM};
+use crate::node::{Entry, Node, CLOCK_MAX, REPLY_ROOM, TABLE_ROOM};
 use crate::random::Random;
+use crate::wire;
 
 /// Where a node is connected to a link. Member 0 is the node under test.
 #[derive(Clone, Copy, PartialEq, Eq)]
@@ -65,6 +66,9 @@ impl Mesh {
             _ => generator.random.below(120),
         };
         generator.clock = (generator.clock + step).min(CLOCK_MAX);
+        if generator.random.one_in(25) {
+            generator.wait_for_some_silence();
+        }
         self.others_act(generator);
         self.tick_under_test(generator);
         self.deliver(generator);
@@ -244,7 +248,7 @@ impl Mesh {
     }
 }
 
-/// Another node, begun afresh or with something published already.
+/// Another node, begun afresh or with something published already, sometimes of another maker.
 fn other_node(random: &mut Random, id: u32, clock: u64) -> Node {
     let mut node = Node::blank();
     if random.one_in(2) {
@@ -258,7 +262,23 @@ fn other_node(random: &mut Random, id: u32, clock: u64) -> Node {
         let snapshot = craft::snapshot_of(id, &[(id, seq, 0, craft::good_data(tlvs))]);
         node.resume(TABLE_ROOM, &snapshot, clock, &random.randoms());
     }
+    if random.one_in(3) {
+        publish_intervals(random, &mut node);
+    }
     node
+}
+
+/// Makes a node one of another maker: it publishes Keep-Alive TLVs that none of our calls writes.
+fn publish_intervals(random: &mut Random, node: &mut Node) {
+    let endpoint = random.range(1, 4) as u32;
+    let mut tlvs = craft::keep_alives(random, endpoint);
+    let own = node.own_entry();
+    let present = wire::tlvs_of(own.data());
+    tlvs.extend(present.iter().map(|tlv| tlv.whole.to_vec()));
+    let data = craft::good_data(tlvs);
+    // No other is in its table yet.
+    node.table = vec![Entry::new(own.node, own.seq, own.age, own.since, data)];
+    node.digest = node.network_digest(node.last);
 }
 
 /// A connected mesh: each member shares a link with an earlier one; some links are shared by more.

@@ -1,76 +1,19 @@
-use native.Mathlib.Omega.{arith}
-use mathlib.Core.Path.{_≡_, sym, _∙_}
-use mathlib.Core.Bool.{true}
-use Prim.Native.Nat.{_-_, _≤_}
-use lib.ListN.{length, drop}
-use Rattle.wire.specs.Row.{isRow, tlvs}
-use Rattle.model.specs.Tick.{intervalIn}
-use Rattle.upkeep.proofs.KeepAlive.{given, given-start, given-end, given-here, given-on, long-enough}
+use borrow.Author.Needs.{needs}
+use mathlib.Core.Path.{_∙_}
+use Rattle.upkeep.proofs.KeepAlive.{interval-is}
 use Rattle.upkeep.proofs.silence.interval_in.Statement.{statement}
 use Rattle.upkeep.proofs.silence.interval_in.Tie as tie
 
-abbrev Inv-loop : tie.InvT-loop
-Inv-loop nd endpoint at₀ at = (at ≤ length nd) × (isRow (drop at nd) ≡ true) × (intervalIn nd endpoint ≡ given (tlvs (drop at nd)) endpoint)
+interval-for-requires : tie.Need-interval-for-requires
+interval-for-requires c κs = search needs
 
-abbrev μ-loop : tie.MeasureT-loop
-μ-loop nd endpoint at₀ at = length nd - at
+interval-for-requires-2 : tie.Need-interval-for-requires-2
+interval-for-requires-2 c κs = search needs
 
-loop-holds : tie.Need-loop-holds Inv-loop μ-loop
-loop-holds c = let a = c .before .args in (omega arith, c .before .pre, given-start (a .nd .now) (a .endpoint))
-
-tlv-at-requires : tie.Need-tlv-at-requires Inv-loop μ-loop
-tlv-at-requires c κs = (c .loop-test .taken, c .before .loop .inv .1)
-
-is-keep-alive-requires : tie.Need-is-keep-alive-requires Inv-loop μ-loop
-is-keep-alive-requires c κs = c .tlv-at .ensures
-
-add-read-u32 : tie.Need-add-read-u32 Inv-loop μ-loop
-add-read-u32 c =
-    let a = c .before .before .before .before .before .before .before .args in
-    let k = c .before .before .before .tlv-at in
-    omega (arith, k .ensures .start, k .ensures .inside, k .ensures .within)
-
-read-u32-requires : tie.Need-read-u32-requires Inv-loop μ-loop
-read-u32-requires c κs =
-    let a = c .before .before .before .before .before .before .before .args in
-    let k = c .before .before .before .tlv-at in
-    omega (arith, k .ensures .inside, k .ensures .within, long-enough (a .nd .now) (c .before .before .before .before .before .loop .at) (k .result) (k .ensures) (a .endpoint) (c .before .before .is-keep-alive .ensures) (c .before .if1 .taken))
-
-returns : tie.Need-returns Inv-loop μ-loop
+returns : tie.Need-returns
 returns c =
-    let a = c .before .before .before .before .before .before .before .before .args in
-    let v = c .before .before .before .before .before .before .loop in
-    let k = c .before .before .before .before .tlv-at in
-    c .read-u32 .ensures ∙ sym (v .inv .2 ∙ given-here (a .nd .now) (a .endpoint) (v .at) (k .result) (k .ensures) (c .before .before .before .is-keep-alive .ensures) (c .before .before .if1 .taken))
-
-loop-less : tie.Need-loop-less Inv-loop μ-loop
-loop-less c = let k = c .before .before .tlv-at in omega (arith, k .ensures .onward, k .ensures .within)
-
-loop-again : tie.Need-loop-again Inv-loop μ-loop
-loop-again c =
-    let a = c .before .before .before .before .before .before .args in
-    let v = c .before .before .before .before .loop in
-    let k = c .before .before .tlv-at in
-    (k .ensures .within, k .ensures .again, v .inv .2 ∙ given-on (a .nd .now) (a .endpoint) (v .at) (k .result) (k .ensures) (c .before .is-keep-alive .ensures) (c .if1 .left))
-
-returns-2 : tie.Need-returns-2 Inv-loop μ-loop
-returns-2 c =
     let a = c .before .before .before .args in
-    let v = c .before .loop in
-    sym (v .inv .2 ∙ given-end (a .nd .now) (a .endpoint) (v .at) (omega arith))
+    c .interval-for2 .ensures ∙ interval-is (a .nd .now) (a .endpoint) (c .before .interval-for .result) (c .before .interval-for .ensures)
 
 pub interval-in-spec : {M : Type 1} → statement M
-interval-in-spec =
-    tie.close
-    (tie.spec
-    Inv-loop
-    μ-loop
-    loop-holds
-    tlv-at-requires
-    is-keep-alive-requires
-    add-read-u32
-    read-u32-requires
-    returns
-    loop-less
-    loop-again
-    returns-2)
+interval-in-spec = tie.close (tie.spec interval-for-requires interval-for-requires-2 returns)
