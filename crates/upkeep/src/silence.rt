@@ -64,8 +64,8 @@ fn interval_for(nd: &[u8], endpoint: u32, other: u32) -> u32
     other
 }
 
-// The interval that node data give for an endpoint: its own TLV's, else that of the one for all endpoints, else 20,000. Two searches, since that one comes first
-// where data ascend.
+// The interval that node data give for an endpoint: its own TLV's, else that of the TLV for all endpoints, else 20,000. Two searches: data ascend, so that one
+// search for either would find the TLV for all endpoints first.
 fn interval_in(nd: &[u8], endpoint: u32) -> u32
     requires { ⌜ isRow (now nd) ≡ true ⌝ }
     ensures { λ r. ⌜ r ≡ intervalIn (now (nd .entry)) endpoint ⌝ }
