@@ -60,10 +60,10 @@ extern "C" {
 #define PINGVRATHA_ANSWER
 #endif
 
-#define PINGVRATHA_VERSION "0.4.1"
+#define PINGVRATHA_VERSION "0.4.2"
 #define PINGVRATHA_VERSION_MAJOR 0
 #define PINGVRATHA_VERSION_MINOR 4
-#define PINGVRATHA_VERSION_PATCH 1
+#define PINGVRATHA_VERSION_PATCH 2
 
 /* ---- The figures of documents 01 and 02. */
 

@@ -7,6 +7,7 @@ mod network;
 
 use crate::archive::Archive;
 use crate::compare::Checked;
+use crate::{digest, stack};
 use network::{equal_states, passed_over, statements, Line, CLOCK, HOUSEHOLD, RANDOMS};
 use pingvratha::{Room, SnapshotRoom, MOST_BYTES, SNAPSHOT_BYTES};
 use reference::calls::{Calls, Rooms};
@@ -360,7 +361,20 @@ fn stack_use() -> Result<(), String> {
     }
     let most = depths.values().max().copied().unwrap_or_default();
     println!("most         {most:7}");
+    println!("\nThe digest by itself, of up to 1,024 bytes.");
+    println!("hash16       {:7}", digest_use(digest::hash16));
+    println!("digest       {:7}", digest_use(digest::digest));
     Ok(())
+}
+
+/// The most stack of a function of the digest, over messages with every form of the last block.
+fn digest_use<const BYTES: usize>(hash: impl Fn(&[u8], &mut [u8; BYTES]) + Sync) -> usize {
+    let message = [7; wire::MAX_DATA];
+    let mut digest = [0; BYTES];
+    [0, 1, 55, 56, 63, 64, wire::MAX_DATA]
+        .map(|length| stack::measured(|| hash(&message[..length], &mut digest)).1)
+        .into_iter()
+        .fold(0, usize::max)
 }
 
 /// Each call with as much to do as there can be.

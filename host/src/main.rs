@@ -7,6 +7,8 @@
 mod archive;
 mod bench;
 mod compare;
+#[allow(unsafe_code)]
+mod digest;
 mod owned;
 mod quiet;
 #[allow(unsafe_code)]

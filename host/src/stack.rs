@@ -30,21 +30,20 @@ extern "C" {
 }
 
 /// The result of the call, and the bytes of stack that it used, its arguments and its answer among
-/// them. A few hundred bytes are the least that shows: so much the end of a thread needs.
+/// them.
 pub fn measured<T: Send>(call: impl FnOnce() -> T + Send) -> (T, usize) {
     let mut stack = vec![Page([PATTERN; 512]); SIZE / size_of::<Page>()];
     let mut work = Work {
         call: Some(call),
         result: MaybeUninit::uninit(),
         top: 0,
+        end: stack.as_ptr().cast::<u64>() as usize,
+        lowest: 0,
     };
     run_on(&mut stack, &mut work);
-    let words = stack.iter().flat_map(|page| &page.0);
-    let untouched = words.take_while(|&&word| word == PATTERN).count();
-    let lowest = stack.as_ptr() as usize + 8 * untouched;
     // The thread has run, and has written the result.
     let result = unsafe { work.result.assume_init() };
-    (result, work.top - lowest)
+    (result, work.top - work.lowest)
 }
 
 /// Stacks are made of whole pages.
@@ -55,8 +54,10 @@ struct Page([u64; 512]);
 struct Work<F, T> {
     call: Option<F>,
     result: MaybeUninit<T>,
-    /// Where the stack stood before the call.
+    /// Where the stack stood before the call, where it ends, and how far down the call went.
     top: usize,
+    end: usize,
+    lowest: usize,
 }
 
 fn run_on<F: FnOnce() -> T + Send, T: Send>(stack: &mut [Page], work: &mut Work<F, T>) {
@@ -85,6 +86,8 @@ extern "C" fn run<F: FnOnce() -> T, T>(argument: *mut c_void) -> *mut c_void {
     let here = 0u8;
     work.top = black_box(&raw const here) as usize;
     call(work);
+    // At once, for the end of a thread needs some hundred bytes of stack as well.
+    work.lowest = first_changed(work.end);
     null_mut()
 }
 
@@ -94,6 +97,17 @@ fn call<F: FnOnce() -> T, T>(work: &mut Work<F, T>) {
     if let Some(call) = work.call.take() {
         work.result.write(call());
     }
+}
+
+/// The first word from here on that is not the pattern. It keeps nothing on the stack.
+#[inline(never)]
+fn first_changed(end: usize) -> usize {
+    let mut at = end as *const u64;
+    // The stack goes on up to where this function was called from, which has changed words.
+    while unsafe { at.read_volatile() } == PATTERN {
+        at = at.wrapping_add(1);
+    }
+    at as usize
 }
 
 fn succeeded(status: i32) {
@@ -112,7 +126,7 @@ mod tests {
     /// An array on the stack shows, and not much else.
     #[test]
     fn measures_what_is_used() {
-        assert!(used::<1>() < 1_000);
+        assert!(used::<1>() < 100);
         assert!((10_000..11_000).contains(&used::<10_000>()));
         assert!((100_000..101_000).contains(&used::<100_000>()));
     }

@@ -5,7 +5,6 @@ use mathlib.Core.List.{List, [], _∷_, _++_}
 use lib.ListN.{length, getD, take, replicate}
 use lib.Bits.{bitAnd, bitOr, bitXor}
 use Rattle.sha256.specs.declared.State.{State}
-use Rattle.sha256.specs.declared.Block.{Block}
 
 -- 2.2.2 and 3.2: addition modulo 2 ^ 32, the complement, the shift right and the rotation right, at w = 32
 infixl 60 _⊞_
@@ -136,9 +135,3 @@ sha256 m = bytesOf (hashValue m)
 -- the first 16 bytes: H of the ledger's profile (document 01, Figures)
 unfoldable pub hash16 : List ℕ → List ℕ
 hash16 m = take 16 (sha256 m)
-
--- the words of the code's struct
-unfoldable pub wordsOf : Block → List ℕ
-wordsOf b =
-    b .w0 ∷ b .w1 ∷ b .w2 ∷ b .w3 ∷ b .w4 ∷ b .w5 ∷ b .w6 ∷ b .w7 ∷
-    b .w8 ∷ b .w9 ∷ b .w10 ∷ b .w11 ∷ b .w12 ∷ b .w13 ∷ b .w14 ∷ b .w15 ∷ []

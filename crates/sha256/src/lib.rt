@@ -26,26 +26,6 @@ pub struct State {
     pub h: u32,
 }
 
-// Sixteen words of the message schedule.
-pub struct Block {
-    pub w0: u32,
-    pub w1: u32,
-    pub w2: u32,
-    pub w3: u32,
-    pub w4: u32,
-    pub w5: u32,
-    pub w6: u32,
-    pub w7: u32,
-    pub w8: u32,
-    pub w9: u32,
-    pub w10: u32,
-    pub w11: u32,
-    pub w12: u32,
-    pub w13: u32,
-    pub w14: u32,
-    pub w15: u32,
-}
-
 // The eight words of the hash value of m, block by block.
 fn hash_value(m: &[u8]) -> State
     ensures { λ r. ⌜ r ≡ hashValue (now (m .entry)) ⌝ }
@@ -80,4 +60,12 @@ pub extern "C" fn pingvratha_sha256(m: &[u8], out: &mut [u8; 32])
     ensures { λ _. ⌜ now (out .exit) ≡ sha256 (now (m .entry)) ⌝ }
 {
     *out = digest(m);
+}
+
+// The ledger's H of m for programs in other languages.
+#[no_mangle]
+pub extern "C" fn pingvratha_hash16(m: &[u8], out: &mut [u8; 16])
+    ensures { λ _. ⌜ now (out .exit) ≡ hash16 (now (m .entry)) ⌝ }
+{
+    *out = hash16(m);
 }

@@ -1,10 +1,9 @@
 // The message, padded and parsed into blocks (FIPS 180-4, 5.1.1 and 5.2.1).
-use crate::Block;
 ghost use mathlib.Core.Path.{_≡_};
 ghost use mathlib.Core.List.{[], _∷_, _++_};
 ghost use Prim.Native.Nat.{_+_, _*_, _%_, _^_, _≤_, _<_};
 ghost use lib.ListN.{length, getD};
-ghost use Rattle.sha256.specs.Sha256.{wordsOf, endOf, wordAt, blockAt, pad};
+ghost use Rattle.sha256.specs.Sha256.{endOf, wordAt, blockAt, pad};
 
 // Four bytes as a word, the highest first.
 fn word(x: u8, y: u8, z: u8, u: u8) -> u32
@@ -48,26 +47,26 @@ fn word_at(m: &[u8], i: usize, end: usize) -> u32
 }
 
 // The block at byte `at` of m as it is padded.
-pub fn load(m: &[u8], at: usize, end: usize) -> Block
+pub fn load(m: &[u8], at: usize, end: usize) -> [u32; 16]
     requires { ⌜ (end ≡ endOf (length (now m))) × (end + 64 < 2 ^ 64) × (at % 64 ≡ 0) × (at + 64 ≤ end + 8) ⌝ }
-    ensures { λ r. ⌜ wordsOf r ≡ blockAt (pad (now (m .entry))) at ⌝ }
+    ensures { λ r. ⌜ r ≡ blockAt (pad (now (m .entry))) at ⌝ }
 {
-    Block {
-        w0: word_at(m, at, end),
-        w1: word_at(m, at + 4, end),
-        w2: word_at(m, at + 8, end),
-        w3: word_at(m, at + 12, end),
-        w4: word_at(m, at + 16, end),
-        w5: word_at(m, at + 20, end),
-        w6: word_at(m, at + 24, end),
-        w7: word_at(m, at + 28, end),
-        w8: word_at(m, at + 32, end),
-        w9: word_at(m, at + 36, end),
-        w10: word_at(m, at + 40, end),
-        w11: word_at(m, at + 44, end),
-        w12: word_at(m, at + 48, end),
-        w13: word_at(m, at + 52, end),
-        w14: word_at(m, at + 56, end),
-        w15: word_at(m, at + 60, end),
-    }
+    [
+        word_at(m, at, end),
+        word_at(m, at + 4, end),
+        word_at(m, at + 8, end),
+        word_at(m, at + 12, end),
+        word_at(m, at + 16, end),
+        word_at(m, at + 20, end),
+        word_at(m, at + 24, end),
+        word_at(m, at + 28, end),
+        word_at(m, at + 32, end),
+        word_at(m, at + 36, end),
+        word_at(m, at + 40, end),
+        word_at(m, at + 44, end),
+        word_at(m, at + 48, end),
+        word_at(m, at + 52, end),
+        word_at(m, at + 56, end),
+        word_at(m, at + 60, end),
+    ]
 }

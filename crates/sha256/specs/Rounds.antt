@@ -1,0 +1,53 @@
+-- The rounds of one block, with sixteen of its words kept at any moment (document 02, Less stack for the digest; FIPS 180-4, whose section numbers these are).
+-- Assumes nothing.
+use Prim.Native.Nat.{ℕ, _+_, _-_, _%_, _<_}
+use mathlib.Core.Path.{_≡_}
+use mathlib.Core.List.{List, [], _∷_}
+use lib.ListN.{length, getD, take}
+use Rattle.sha256.specs.declared.State.{State}
+use Rattle.sha256.specs.declared.constants.Constants.{Constants}
+use Rattle.sha256.specs.Sha256.{kTable, schedule, roundOf, rounds}
+
+-- 6.2.2, step 1: the word t of the block m, for t from 0 to 63; and 4.2.2: the constant t
+abbrev pub W : List ℕ → ℕ → ℕ
+W m t = getD (schedule m) t 0
+
+abbrev pub K : ℕ → ℕ
+K t = getD kTable t 0
+
+-- step 3: the working variables as round t begins, from the hash value h: the rounds before t are done
+unfoldable pub variables : List ℕ → State → ℕ → State
+variables m h t = rounds (take t kTable) (take t (schedule m)) h
+
+-- "keep at most sixteen message words of a block": w has the words of the block m that are kept as round t begins, the word i at i modulo 16. Up to round
+-- 16 they are the block's own (a difference is at least 0), from then on the sixteen before word t
+pub record Window (m : List ℕ) (t : ℕ) (w : List ℕ) : Type 0 where
+  pub block : length m ≡ 16
+  pub sixteen : length w ≡ 16
+  pub words : (j : ℕ) → j < 16 → getD w ((t - 16 + j) % 16) 0 ≡ W m (t - 16 + j)
+
+-- "work out the next from them": x is the word t of every block of which w keeps the words, and then w′ keeps those for the next round
+pub record Takes (t : ℕ) (w : List ℕ) (x : ℕ) (w′ : List ℕ) : Type 0 where
+  pub word : (m : List ℕ) → Window m t w → x ≡ W m t
+  pub window : (m : List ℕ) → Window m t w → Window m (t + 1) w′
+
+-- "the word each round takes": the code hands `word` to round t, which makes r of s, and that is the word t of every block of which w keeps the words
+pub record RoundAt (t k : ℕ) (s : State) (w : List ℕ) (r : State) (w′ : List ℕ) : Type 0 where
+  pub word : ℕ
+  pub takes : Takes t w word w′
+  pub round : r ≡ roundOf s k word
+
+-- working variables and words as round t of the block m begins, from the hash value h
+pub record Before (m : List ℕ) (h : State) (t : ℕ) (s : State) (w : List ℕ) : Type 0 where
+  pub state : s ≡ variables m h t
+  pub window : Window m t w
+
+-- the rounds t to u - 1, of every block
+abbrev pub Runs : ℕ → ℕ → State → List ℕ → State → List ℕ → Type 0
+Runs t u s w r w′ = (m : List ℕ) (h : State) → Before m h t s w → Before m h u r w′
+
+-- the constants of the code's struct
+unfoldable pub constantsOf : Constants → List ℕ
+constantsOf k =
+    k .k0 ∷ k .k1 ∷ k .k2 ∷ k .k3 ∷ k .k4 ∷ k .k5 ∷ k .k6 ∷ k .k7 ∷
+    k .k8 ∷ k .k9 ∷ k .k10 ∷ k .k11 ∷ k .k12 ∷ k .k13 ∷ k .k14 ∷ k .k15 ∷ []
