@@ -1,4 +1,5 @@
-//! The benchmark: the archive against the reference on the same calls, and the stack of each call.
+//! The benchmark: the archive against the reference on the same calls, and the stack of each call
+//! and of the digest.
 //!
 //! Both sides take turns, so that a busy machine slows neither more than the other, and the median
 //! of the rounds counts.
@@ -374,7 +375,8 @@ fn digest_use<const BYTES: usize>(hash: impl Fn(&[u8], &mut [u8; BYTES]) + Sync)
     [0, 1, 55, 56, 63, 64, wire::MAX_DATA]
         .map(|length| stack::measured(|| hash(&message[..length], &mut digest)).1)
         .into_iter()
-        .fold(0, usize::max)
+        .max()
+        .unwrap_or_default()
 }
 
 /// Each call with as much to do as there can be.

@@ -1,5 +1,6 @@
 //! The digest by itself, from the archive of the crate `sha256`.
 
+// Each reads `length` bytes of the message and writes the digest.
 extern "C" {
     fn pingvratha_sha256(message: *const u8, length: usize, digest: *mut [u8; 32]);
     fn pingvratha_hash16(message: *const u8, length: usize, digest: *mut [u8; 16]);
@@ -7,13 +8,11 @@ extern "C" {
 
 /// Writes the SHA-256 of the message.
 pub fn digest(message: &[u8], digest: &mut [u8; 32]) {
-    // So many bytes are read, and so many written.
     unsafe { pingvratha_sha256(message.as_ptr(), message.len(), digest) }
 }
 
-/// Writes its first 16 bytes.
+/// Writes the first 16 bytes of the SHA-256 of the message.
 pub fn hash16(message: &[u8], digest: &mut [u8; 16]) {
-    // So many bytes are read, and so many written.
     unsafe { pingvratha_hash16(message.as_ptr(), message.len(), digest) }
 }
 

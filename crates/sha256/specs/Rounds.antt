@@ -1,5 +1,4 @@
--- The rounds of one block, with sixteen of its words kept at any moment (document 02, Less stack for the digest; FIPS 180-4, whose section numbers these are).
--- Assumes nothing.
+-- The rounds of one block, with sixteen of its words kept (document 02, Less stack for the digest). Section numbers are those of FIPS 180-4. Assumes nothing.
 use Prim.Native.Nat.{ℕ, _+_, _-_, _%_, _<_}
 use mathlib.Core.Path.{_≡_}
 use mathlib.Core.List.{List, [], _∷_}
@@ -8,19 +7,16 @@ use Rattle.sha256.specs.declared.State.{State}
 use Rattle.sha256.specs.declared.constants.Constants.{Constants}
 use Rattle.sha256.specs.Sha256.{kTable, schedule, roundOf, rounds}
 
--- 6.2.2, step 1: the word t of the block m, for t from 0 to 63; and 4.2.2: the constant t
+-- 6.2.2, step 1: the word t of the block m, for t from 0 to 63
 abbrev pub W : List ℕ → ℕ → ℕ
 W m t = getD (schedule m) t 0
-
-abbrev pub K : ℕ → ℕ
-K t = getD kTable t 0
 
 -- step 3: the working variables as round t begins, from the hash value h: the rounds before t are done
 unfoldable pub variables : List ℕ → State → ℕ → State
 variables m h t = rounds (take t kTable) (take t (schedule m)) h
 
 -- "keep at most sixteen message words of a block": w has the words of the block m that are kept as round t begins, the word i at i modulo 16. Up to round
--- 16 they are the block's own (a difference is at least 0), from then on the sixteen before word t
+-- 16, where t - 16 is 0, they are the block's own; from then on the sixteen before word t
 pub record Window (m : List ℕ) (t : ℕ) (w : List ℕ) : Type 0 where
   pub block : length m ≡ 16
   pub sixteen : length w ≡ 16
@@ -31,7 +27,7 @@ pub record Takes (t : ℕ) (w : List ℕ) (x : ℕ) (w′ : List ℕ) : Type 0 w
   pub word : (m : List ℕ) → Window m t w → x ≡ W m t
   pub window : (m : List ℕ) → Window m t w → Window m (t + 1) w′
 
--- "the word each round takes": the code hands `word` to round t, which makes r of s, and that is the word t of every block of which w keeps the words
+-- "the word each round takes": round t makes r of s with `word`, which the code hands it, and `word` is the word t of every block of which w keeps the words
 pub record RoundAt (t k : ℕ) (s : State) (w : List ℕ) (r : State) (w′ : List ℕ) : Type 0 where
   pub word : ℕ
   pub takes : Takes t w word w′

@@ -44,48 +44,49 @@ fn first_rounds(s: State, w: &mut [u32; 16]) -> State
     ensures { λ r. ⌜ Runs 0 16 s (now (w .entry)) r (now (w .exit)) ⌝ }
 {
     let k = of_rounds(0);
-    let s1 = round_at(s, k.k0, w, 0);
-    let s2 = round_at(s1, k.k1, w, 1);
-    let s3 = round_at(s2, k.k2, w, 2);
-    let s4 = round_at(s3, k.k3, w, 3);
-    let s5 = round_at(s4, k.k4, w, 4);
-    let s6 = round_at(s5, k.k5, w, 5);
-    let s7 = round_at(s6, k.k6, w, 6);
-    let s8 = round_at(s7, k.k7, w, 7);
-    let s9 = round_at(s8, k.k8, w, 8);
-    let s10 = round_at(s9, k.k9, w, 9);
-    let s11 = round_at(s10, k.k10, w, 10);
-    let s12 = round_at(s11, k.k11, w, 11);
-    let s13 = round_at(s12, k.k12, w, 12);
-    let s14 = round_at(s13, k.k13, w, 13);
-    let s15 = round_at(s14, k.k14, w, 14);
-    let s16 = round_at(s15, k.k15, w, 15);
-    s16
+    let mut x = round_at(s, k.k0, w, 0);
+    x = round_at(x, k.k1, w, 1);
+    x = round_at(x, k.k2, w, 2);
+    x = round_at(x, k.k3, w, 3);
+    x = round_at(x, k.k4, w, 4);
+    x = round_at(x, k.k5, w, 5);
+    x = round_at(x, k.k6, w, 6);
+    x = round_at(x, k.k7, w, 7);
+    x = round_at(x, k.k8, w, 8);
+    x = round_at(x, k.k9, w, 9);
+    x = round_at(x, k.k10, w, 10);
+    x = round_at(x, k.k11, w, 11);
+    x = round_at(x, k.k12, w, 12);
+    x = round_at(x, k.k13, w, 13);
+    x = round_at(x, k.k14, w, 14);
+    x = round_at(x, k.k15, w, 15);
+    x
 }
 
-// The rounds t + 16 to t + 31, where t is a multiple of 16; each works its word out. By the sum the compiler knows that none is below 16.
+// The rounds t + 16 to t + 31, where t is a multiple of 16; each works its word out. The sum tells the compiler that none is below 16, so that it drops the
+// test in `word`.
 fn later_rounds(s: State, w: &mut [u32; 16], t: usize) -> State
     requires { ⌜ (t % 16 ≡ 0) × (t < 48) ⌝ }
     ensures { λ r. ⌜ Runs (t + 16) (t + 32) s (now (w .entry)) r (now (w .exit)) ⌝ }
 {
     let k = of_rounds(t + 16);
-    let s1 = round_at(s, k.k0, w, t + 16);
-    let s2 = round_at(s1, k.k1, w, t + 17);
-    let s3 = round_at(s2, k.k2, w, t + 18);
-    let s4 = round_at(s3, k.k3, w, t + 19);
-    let s5 = round_at(s4, k.k4, w, t + 20);
-    let s6 = round_at(s5, k.k5, w, t + 21);
-    let s7 = round_at(s6, k.k6, w, t + 22);
-    let s8 = round_at(s7, k.k7, w, t + 23);
-    let s9 = round_at(s8, k.k8, w, t + 24);
-    let s10 = round_at(s9, k.k9, w, t + 25);
-    let s11 = round_at(s10, k.k10, w, t + 26);
-    let s12 = round_at(s11, k.k11, w, t + 27);
-    let s13 = round_at(s12, k.k12, w, t + 28);
-    let s14 = round_at(s13, k.k13, w, t + 29);
-    let s15 = round_at(s14, k.k14, w, t + 30);
-    let s16 = round_at(s15, k.k15, w, t + 31);
-    s16
+    let mut x = round_at(s, k.k0, w, t + 16);
+    x = round_at(x, k.k1, w, t + 17);
+    x = round_at(x, k.k2, w, t + 18);
+    x = round_at(x, k.k3, w, t + 19);
+    x = round_at(x, k.k4, w, t + 20);
+    x = round_at(x, k.k5, w, t + 21);
+    x = round_at(x, k.k6, w, t + 22);
+    x = round_at(x, k.k7, w, t + 23);
+    x = round_at(x, k.k8, w, t + 24);
+    x = round_at(x, k.k9, w, t + 25);
+    x = round_at(x, k.k10, w, t + 26);
+    x = round_at(x, k.k11, w, t + 27);
+    x = round_at(x, k.k12, w, t + 28);
+    x = round_at(x, k.k13, w, t + 29);
+    x = round_at(x, k.k14, w, t + 30);
+    x = round_at(x, k.k15, w, t + 31);
+    x
 }
 
 fn add(s: State, t: State) -> State

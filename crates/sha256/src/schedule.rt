@@ -19,15 +19,13 @@ pub fn word(w: &mut [u32; 16], t: usize) -> u32
     requires { ⌜ t < 64 ⌝ }
     ensures { λ r. ⌜ Takes t (now (w .entry)) r (now (w .exit)) ⌝ }
 {
-    if t < 16 {
-        return w[t % 16];
+    if 16 <= t {
+        w[t % 16] = next(
+            w[(t - 2) % 16],
+            w[(t - 7) % 16],
+            w[(t - 15) % 16],
+            w[(t - 16) % 16],
+        );
     }
-    let x = next(
-        w[(t - 2) % 16],
-        w[(t - 7) % 16],
-        w[(t - 15) % 16],
-        w[(t - 16) % 16],
-    );
-    w[t % 16] = x;
-    x
+    w[t % 16]
 }

@@ -1,16 +1,9 @@
 use borrow.Author.Needs.{needs}
 use Rattle.sha256.proofs.schedule.word.Statement.{statement}
 use Rattle.sha256.proofs.schedule.word.Tie as tie
+use mathlib.Core.Logic.{⊎-elim}
+use native.Mathlib.Omega.{arith}
 use Rattle.sha256.proofs.Words.{takes-early, takes-late}
-
-mul-result : tie.Need-mul-result
-mul-result c = search needs
-
-element-copy-out-result : tie.Need-element-copy-out-result
-element-copy-out-result c = search needs
-
-returns : tie.Need-returns
-returns c = takes-early (c .before .before .args .t) (c .before .before .args .w .now) (c .before .if1 .taken)
 
 sub-next : tie.Need-sub-next
 sub-next c = search needs
@@ -54,19 +47,25 @@ mul-w c = search needs
 element-write-w : tie.Need-element-write-w
 element-write-w c = search needs
 
-returns-2 : tie.Need-returns-2
-returns-2 c =
-    let start = c .before .before .before .before .before .before in
+mul-result : tie.Need-mul-result
+mul-result c = search needs
+
+element-copy-out-result : tie.Need-element-copy-out-result
+element-copy-out-result c = search needs
+
+returns : tie.Need-returns
+returns c =
+    let start = c .before .before in
     let a = start .args in
-    takes-late (a .t) (c .next .result) (a .w .now) (c .before .before .before .before .before .if1 .left) (start .pre) (c .next .ensures)
+    ⊎-elim
+    (λ y. takes-late (a .t) (y .5 .result) (a .w .now) (c .before .if1 .w) (omega (arith, y .0 .taken)) (start .pre) (y .5 .ensures) (y .6))
+    (λ n. takes-early (a .t) (a .w .now) (c .before .if1 .w) (omega (arith, n .0 .left)) (n .1))
+    (c .before .if1 .came)
 
 pub word-spec : {M : Type 1} → statement M
 word-spec =
     tie.close
     (tie.spec
-    mul-result
-    element-copy-out-result
-    returns
     sub-next
     mul-next
     element-copy-out-next
@@ -81,4 +80,6 @@ word-spec =
     next-requires
     mul-w
     element-write-w
-    returns-2)
+    mul-result
+    element-copy-out-result
+    returns)
