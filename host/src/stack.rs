@@ -126,10 +126,10 @@ mod tests {
         measured(|| black_box([1u8; BYTES])[BYTES / 2]).1
     }
 
-    /// An array on the stack shows, and not much else.
+    /// An array on the stack shows, and in a release build not much else.
     #[test]
     fn measures_what_is_used() {
-        assert!(used::<1>() < 500);
+        assert!(used::<1>() < 100);
         assert!((10_000..11_000).contains(&used::<10_000>()));
         assert!((100_000..101_000).contains(&used::<100_000>()));
     }

@@ -2,7 +2,7 @@
 use Prim.Native.Nat.{ℕ, _+_, _-_, _%_, _<_}
 use mathlib.Core.Path.{_≡_}
 use mathlib.Core.List.{List, [], _∷_}
-use lib.ListN.{length, getD, take}
+use lib.ListN.{length, getD, take, drop}
 use Rattle.sha256.specs.declared.State.{State}
 use Rattle.sha256.specs.declared.constants.Constants.{Constants}
 use Rattle.sha256.specs.Sha256.{kTable, schedule, roundOf, rounds}
@@ -10,10 +10,6 @@ use Rattle.sha256.specs.Sha256.{kTable, schedule, roundOf, rounds}
 -- 6.2.2, step 1: the word t of the block m, for t from 0 to 63
 abbrev pub W : List ℕ → ℕ → ℕ
 W m t = getD (schedule m) t 0
-
--- step 3: the working variables as round t begins, from the hash value h: the rounds before t are done
-unfoldable pub variables : List ℕ → State → ℕ → State
-variables m h t = rounds (take t kTable) (take t (schedule m)) h
 
 -- "keep at most sixteen message words of a block": w has the words of the block m that are kept as round t begins, the word i at i modulo 16. Up to round
 -- 16, where t - 16 is 0, they are the block's own; from then on the sixteen before word t
@@ -33,14 +29,13 @@ pub record RoundAt (t k : ℕ) (s : State) (w : List ℕ) (r : State) (w′ : Li
   pub takes : Takes t w word w′
   pub round : r ≡ roundOf s k word
 
--- working variables and words as round t of the block m begins, from the hash value h
-pub record Before (m : List ℕ) (h : State) (t : ℕ) (s : State) (w : List ℕ) : Type 0 where
-  pub state : s ≡ variables m h t
-  pub window : Window m t w
-
--- the rounds t to u - 1, of every block
-abbrev pub Runs : ℕ → ℕ → State → List ℕ → State → List ℕ → Type 0
-Runs t u s w r w′ = (m : List ℕ) (h : State) → Before m h t s w → Before m h u r w′
+-- the same of the rounds t to t + n - 1, each with its constant: the code hands them `words`, and these are the words t to t + n - 1 of every such block
+pub record RoundsFrom (t n : ℕ) (s : State) (w : List ℕ) (r : State) (w′ : List ℕ) : Type 0 where
+  pub words : List ℕ
+  pub count : length words ≡ n
+  pub taken : (m : List ℕ) → Window m t w → words ≡ take n (drop t (schedule m))
+  pub done : r ≡ rounds (take n (drop t kTable)) words s
+  pub window : (m : List ℕ) → Window m t w → Window m (t + n) w′
 
 -- the constants of the code's struct
 unfoldable pub constantsOf : Constants → List ℕ

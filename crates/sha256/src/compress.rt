@@ -11,7 +11,7 @@ use crate::schedule::word;
 ghost use mathlib.Core.Path.{_≡_};
 ghost use Prim.Native.Nat.{_+_, _%_, _<_};
 ghost use Rattle.sha256.specs.Sha256.{roundOf, plus, compress};
-ghost use Rattle.sha256.specs.Rounds.{RoundAt, Runs};
+ghost use Rattle.sha256.specs.Rounds.{RoundAt, RoundsFrom};
 
 // One round, with the constant k and the word w.
 fn round(s: State, k: u32, w: u32) -> State
@@ -41,7 +41,7 @@ fn round_at(s: State, k: u32, w: &mut [u32; 16], t: usize) -> State
 
 // The rounds 0 to 15, which take the words of the block. No loop, so that the compiler knows the place of each word.
 fn first_rounds(s: State, w: &mut [u32; 16]) -> State
-    ensures { λ r. ⌜ Runs 0 16 s (now (w .entry)) r (now (w .exit)) ⌝ }
+    ensures { λ r. ⌜ RoundsFrom 0 16 s (now (w .entry)) r (now (w .exit)) ⌝ }
 {
     let k = of_rounds(0);
     let mut x = round_at(s, k.k0, w, 0);
@@ -67,7 +67,7 @@ fn first_rounds(s: State, w: &mut [u32; 16]) -> State
 // test in `word`.
 fn later_rounds(s: State, w: &mut [u32; 16], t: usize) -> State
     requires { ⌜ (t % 16 ≡ 0) × (t < 48) ⌝ }
-    ensures { λ r. ⌜ Runs (t + 16) (t + 32) s (now (w .entry)) r (now (w .exit)) ⌝ }
+    ensures { λ r. ⌜ RoundsFrom (t + 16) 16 s (now (w .entry)) r (now (w .exit)) ⌝ }
 {
     let k = of_rounds(t + 16);
     let mut x = round_at(s, k.k0, w, t + 16);
@@ -86,6 +86,19 @@ fn later_rounds(s: State, w: &mut [u32; 16], t: usize) -> State
     x = round_at(x, k.k13, w, t + 29);
     x = round_at(x, k.k14, w, t + 30);
     x = round_at(x, k.k15, w, t + 31);
+    x
+}
+
+// The 64 rounds of the block in w.
+fn all_rounds(s: State, w: &mut [u32; 16]) -> State
+    ensures { λ r. ⌜ RoundsFrom 0 64 s (now (w .entry)) r (now (w .exit)) ⌝ }
+{
+    let mut x = first_rounds(s, w);
+    let mut t = 0;
+    while t < 48 {
+        x = later_rounds(x, w, t);
+        t += 16;
+    }
     x
 }
 
@@ -108,11 +121,5 @@ fn add(s: State, t: State) -> State
 pub fn absorb(s: State, mut w: [u32; 16]) -> State
     ensures { λ r. ⌜ r ≡ compress w s ⌝ }
 {
-    let mut x = first_rounds(s, &mut w);
-    let mut t = 0;
-    while t < 48 {
-        x = later_rounds(x, &mut w, t);
-        t += 16;
-    }
-    add(x, s)
+    add(all_rounds(s, &mut w), s)
 }
