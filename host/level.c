@@ -72,7 +72,8 @@ static void come_level(void) {
         tick(0, false);
         tick(1, false);
     }
-    printf("level after %" PRIu64 " ms\n", reading - start);
+    printf("level after %" PRIu64 " ms, steps to the farthest node: %zu\n",
+           reading - start, pingvratha_node_marks(&nodes[0], reading).levels);
 }
 
 static void print_totals(int at) {

@@ -60,10 +60,10 @@ extern "C" {
 #define PINGVRATHA_ANSWER
 #endif
 
-#define PINGVRATHA_VERSION "0.4.2"
+#define PINGVRATHA_VERSION "0.5.0"
 #define PINGVRATHA_VERSION_MAJOR 0
-#define PINGVRATHA_VERSION_MINOR 4
-#define PINGVRATHA_VERSION_PATCH 2
+#define PINGVRATHA_VERSION_MINOR 5
+#define PINGVRATHA_VERSION_PATCH 0
 
 /* ---- The figures of documents 01 and 02. */
 
@@ -296,6 +296,9 @@ typedef struct pingvratha_summed {
 typedef struct pingvratha_marked {
     uint32_t number;
     size_t count;
+    /* The number of the last level: how many steps it takes from our own node, level 0, to the
+     * farthest reachable one. The marking passes over the table once more than that. */
+    size_t levels;
     /* The first count are the identifiers of the reachable nodes, ascending; the others are 0. */
     uint32_t nodes[PINGVRATHA_MOST_NODES];
     uint8_t digest[16]; /* the network digest */
@@ -414,7 +417,7 @@ PINGVRATHA_ANSWER pingvratha_summed pingvratha_total(
 PINGVRATHA_ANSWER pingvratha_summed pingvratha_sum(
     pingvratha_state state, const uint8_t *memory, size_t memory_length, uint64_t clock);
 
-/* The reachable nodes, whose payments are summed, and the network digest.
+/* The reachable nodes, whose payments are summed, how far they go, and the network digest.
  *
  * Refusals in order: PINGVRATHA_CLOCK_TOO_HIGH, PINGVRATHA_CLOCK_BACK,
  * PINGVRATHA_BUFFER_TOO_SMALL. */
@@ -700,11 +703,12 @@ PINGVRATHA_SAME(pingvratha_same_summed, sizeof(pingvratha_summed), 24);
 PINGVRATHA_SAME(pingvratha_same_summed_number, offsetof(pingvratha_summed, number), 0);
 PINGVRATHA_SAME(pingvratha_same_summed_value, offsetof(pingvratha_summed, value), 8);
 PINGVRATHA_SAME(pingvratha_same_summed_unread, offsetof(pingvratha_summed, unread), 16);
-PINGVRATHA_SAME(pingvratha_same_marked, sizeof(pingvratha_marked), 160);
+PINGVRATHA_SAME(pingvratha_same_marked, sizeof(pingvratha_marked), 168);
 PINGVRATHA_SAME(pingvratha_same_marked_number, offsetof(pingvratha_marked, number), 0);
 PINGVRATHA_SAME(pingvratha_same_marked_count, offsetof(pingvratha_marked, count), 8);
-PINGVRATHA_SAME(pingvratha_same_marked_nodes, offsetof(pingvratha_marked, nodes), 16);
-PINGVRATHA_SAME(pingvratha_same_marked_digest, offsetof(pingvratha_marked, digest), 144);
+PINGVRATHA_SAME(pingvratha_same_marked_levels, offsetof(pingvratha_marked, levels), 16);
+PINGVRATHA_SAME(pingvratha_same_marked_nodes, offsetof(pingvratha_marked, nodes), 24);
+PINGVRATHA_SAME(pingvratha_same_marked_digest, offsetof(pingvratha_marked, digest), 152);
 PINGVRATHA_SAME(pingvratha_same_saved, sizeof(pingvratha_saved), 16);
 PINGVRATHA_SAME(pingvratha_same_saved_number, offsetof(pingvratha_saved, number), 0);
 PINGVRATHA_SAME(pingvratha_same_saved_length, offsetof(pingvratha_saved, length), 8);

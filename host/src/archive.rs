@@ -298,7 +298,8 @@ impl Calls for Archive {
             .depths
             .of("marks", || unsafe { plain::marks(state, memory, clock) });
         self.expect_memory(&before, 0);
-        let empty = marked.count == 0 && marked.nodes == [0; 32] && marked.digest == [0; 16];
+        let counts = (marked.count, marked.levels);
+        let empty = counts == (0, 0) && marked.nodes == [0; 32] && marked.digest == [0; 16];
         self.expect(
             marked.number == 0 || empty,
             "refused marks are not all zero",
@@ -309,6 +310,7 @@ impl Calls for Archive {
             refusal: marked.number,
             digest: marked.digest,
             nodes: nodes.unwrap_or_default().to_vec(),
+            last_level: marked.levels,
         }
     }
 

@@ -89,6 +89,7 @@ impl Calls for Owned {
             refusal: number(marks),
             digest: marks.map_or([0; 16], |marks| marks.digest()),
             nodes: marks.map_or(vec![], |marks| marks.nodes().to_vec()),
+            last_level: marks.map_or(0, |marks| marks.levels()),
         }
     }
 

@@ -286,6 +286,8 @@ pub struct Marks {
     pub digest: Digest,
     /// Identifiers of the reachable nodes, ascending.
     pub nodes: Vec<u32>,
+    /// The greatest level with a node in it, 0 for a node alone.
+    pub last_level: usize,
 }
 
 /// The first number whose condition holds, or 0.
@@ -352,6 +354,12 @@ pub fn levels(table: &[Entry], own: u32, now: u64) -> Vec<Option<usize>> {
         }
     }
     levels
+}
+
+/// The greatest level with a node in it. Our own node is in level 0, so there always is one.
+pub fn last_level(table: &[Entry], own: u32, now: u64) -> usize {
+    let levels = levels(table, own, now);
+    levels.into_iter().flatten().max().unwrap_or(0)
 }
 
 /// The reachable entries, ascending by identifier.
@@ -734,7 +742,7 @@ impl Node {
         }
     }
 
-    /// The reachable set and the network digest at a reading. Refusals 1 2 4.
+    /// The reachable set, the network digest and the last level at a reading. Refusals 1 2 4.
     pub fn marks(&self, table_len: usize, clock: u64) -> Marks {
         let refusal = self.clock_and_table_refusal(table_len, clock);
         if refusal != 0 {
@@ -748,6 +756,7 @@ impl Node {
             refusal: 0,
             digest: network_digest(&reachable),
             nodes: reachable.iter().map(|entry| entry.node).collect(),
+            last_level: last_level(&self.table, self.own, clock),
         }
     }
 

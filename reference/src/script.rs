@@ -380,9 +380,14 @@ fn summed_text(call: &str, answer: &Summed) -> String {
 
 fn marks_text(answer: &Marks) -> String {
     if answer.refusal != 0 {
-        return format!("marks {} 0 -\n", answer.refusal);
+        return format!("marks {} 0 0 -\n", answer.refusal);
     }
-    let mut text = format!("marks 0 {} {}", answer.nodes.len(), hex(&answer.digest));
+    let mut text = format!(
+        "marks 0 {} {} {}",
+        answer.nodes.len(),
+        answer.last_level,
+        hex(&answer.digest)
+    );
     for node in &answer.nodes {
         text += &format!(" {node}");
     }

@@ -72,13 +72,15 @@ impl Mesh {
         }
     }
 
+    /// All have the same nodes in reach and the same digest. The last level is each node's own:
+    /// from the end of a line it is farther to the other end than from its middle.
     fn is_level(&self, clock: u64) -> bool {
         let marks = self.nodes[0].marks(TABLE_ROOM, clock);
         marks.nodes.len() == self.nodes.len()
-            && self
-                .nodes
-                .iter()
-                .all(|node| node.marks(TABLE_ROOM, clock) == marks)
+            && self.nodes.iter().all(|node| {
+                let other = node.marks(TABLE_ROOM, clock);
+                other.nodes == marks.nodes && other.digest == marks.digest
+            })
     }
 
     /// The reading at which all agree.

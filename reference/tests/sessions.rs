@@ -280,6 +280,30 @@ fn sessions_meet_silences() {
     assert!(met.values().all(|&count| count > 20), "{met:?}");
 }
 
+/// Last levels near and far are printed, always below the number of nodes in reach.
+#[test]
+fn sessions_meet_levels() {
+    let mut met = [0; 5];
+    let mut fewer = 0;
+    for seed in 500..508 {
+        let mut session = Session::default();
+        for line in generate::script(seed, 3_000).lines() {
+            let answer = session.run_line(line);
+            let words: Vec<&str> = answer.split_whitespace().collect();
+            let ["marks", "0", count, last, _, ids @ ..] = words.as_slice() else {
+                continue;
+            };
+            let (count, last): (usize, usize) = (count.parse().unwrap(), last.parse().unwrap());
+            assert_eq!(ids.len(), count);
+            assert!(last < count && count <= session.node.table.len());
+            met[last.min(4)] += 1;
+            fewer += usize::from(last + 1 < count);
+        }
+    }
+    assert!(met.iter().all(|&count| count > 5), "{met:?}");
+    assert!(fewer > 20, "{fewer}");
+}
+
 /// The sum over all households is the sum of the totals, with one count for all.
 #[test]
 fn totals_add_up() {

@@ -55,8 +55,9 @@ impl Link {
     /// Both reach both, and hold the same.
     fn is_level(&self) -> Result<bool, Refusal> {
         let [ours, theirs] = &self.nodes;
-        let marks = ours.marks(self.reading)?;
-        Ok(marks.nodes().len() == 2 && marks == theirs.marks(self.reading)?)
+        let (ours, theirs) = (ours.marks(self.reading)?, theirs.marks(self.reading)?);
+        let both = ours.nodes().len() == 2 && theirs.nodes().len() == 2;
+        Ok(both && ours.digest() == theirs.digest())
     }
 
     fn come_level(&mut self) -> Result<(), Refusal> {
@@ -66,7 +67,9 @@ impl Link {
             self.tick(0, false)?;
             self.tick(1, false)?;
         }
-        println!("level after {} ms", self.reading - start);
+        let levels = self.nodes[0].marks(self.reading)?.levels();
+        let waited = self.reading - start;
+        println!("level after {waited} ms, steps to the farthest node: {levels}");
         Ok(())
     }
 

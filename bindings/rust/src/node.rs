@@ -206,7 +206,7 @@ impl Node {
         summed(unsafe { plain::sum(&self.state, &self.memory, clock) })
     }
 
-    /// The reachable nodes, whose payments are summed, and the network digest.
+    /// The reachable nodes, whose payments are summed, how far they go, and the network digest.
     ///
     /// # Errors
     ///
@@ -216,6 +216,7 @@ impl Node {
         accepted(marked.number)?;
         Ok(Marks {
             count: marked.count,
+            levels: marked.levels,
             nodes: marked.nodes,
             digest: marked.digest,
         })
@@ -285,10 +286,12 @@ pub struct Total {
     pub unread: u32,
 }
 
-/// The reachable nodes.
+/// The reachable nodes. Boxes that agree have the same nodes and the same digest, but not always the
+/// same levels, which each counts from itself.
 #[derive(Clone, Copy, Debug, PartialEq, Eq)]
 pub struct Marks {
     count: usize,
+    levels: usize,
     nodes: [u32; MOST_NODES],
     digest: [u8; 16],
 }
@@ -297,6 +300,12 @@ impl Marks {
     /// Their identifiers, ascending.
     pub fn nodes(&self) -> &[u32] {
         &self.nodes[..self.count]
+    }
+
+    /// The number of the last level: how many steps it takes from our own node, level 0, to the
+    /// farthest reachable one. The marking passes over the table once more than that.
+    pub fn levels(&self) -> usize {
+        self.levels
     }
 
     /// The network digest.

@@ -328,6 +328,9 @@ pub struct Summed {
 pub struct Marked {
     pub number: u32,
     pub count: usize,
+    /// The number of the last level: how many steps it takes from our own node, level 0, to the
+    /// farthest reachable one. The marking passes over the table once more than that.
+    pub levels: usize,
     /// The first count are the identifiers of the reachable nodes, ascending; the others are 0.
     pub nodes: [u32; MOST_NODES],
     /// The network digest.
@@ -407,11 +410,12 @@ const _: () = {
     assert!(offset_of!(Summed, number) == 0);
     assert!(offset_of!(Summed, value) == 8);
     assert!(offset_of!(Summed, unread) == 16);
-    assert!(size_of::<Marked>() == 160);
+    assert!(size_of::<Marked>() == 168);
     assert!(offset_of!(Marked, number) == 0);
     assert!(offset_of!(Marked, count) == 8);
-    assert!(offset_of!(Marked, nodes) == 16);
-    assert!(offset_of!(Marked, digest) == 144);
+    assert!(offset_of!(Marked, levels) == 16);
+    assert!(offset_of!(Marked, nodes) == 24);
+    assert!(offset_of!(Marked, digest) == 152);
     assert!(size_of::<Saved>() == 16);
     assert!(offset_of!(Saved, number) == 0);
     assert!(offset_of!(Saved, length) == 8);
@@ -797,7 +801,7 @@ pub unsafe fn sum(state: &State, memory: &[u8], clock: u64) -> Summed {
     unsafe { raw::pingvratha_sum(*state, memory.as_ptr(), memory.len(), clock) }
 }
 
-/// The reachable nodes, whose payments are summed, and the network digest.
+/// The reachable nodes, whose payments are summed, how far they go, and the network digest.
 ///
 /// Refusals in order: [`Refusal::ClockTooHigh`], [`Refusal::ClockBack`],
 /// [`Refusal::BufferTooSmall`].

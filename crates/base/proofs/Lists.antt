@@ -94,6 +94,14 @@ module _ {A : Type 0} where
     keep-length [] = refl
     keep-length (x ∷ xs) = let h : length (keep p xs) + length (keep (λ x. not (p x)) xs) ≡ length xs = keep-length xs in by-test (p x) (λ b. rw b (omega arith)) (λ b. rw b (omega arith))
 
+-- what a test keeps of both parts is what it keeps of the whole
+pub keep-both : {A : Type 0} (p f : A → Bool) (xs : List A) → length (keep p (keep f xs)) + length (keep p (keep (λ x. not (f x)) xs)) ≡ length (keep p xs)
+keep-both p f [] = refl
+keep-both p f (x ∷ xs) =
+    let h = keep-both p f xs in
+    by-test (f x) (λ b. by-test (p x) (λ c. rw (b, c) (omega (arith, h))) (λ c. rw (b, c) (omega (arith, h))))
+    (λ b. by-test (p x) (λ c. rw (b, c) (omega (arith, h))) (λ c. rw (b, c) (omega (arith, h))))
+
 -- what holds of every element holds of those whose mark is set
 pub all-keep-by : {A : Type 0} (P : A → Type 0) (bs : List Bool) (l : List A) → All P l → All P (keepBy bs l)
 all-keep-by P [] l h = tt

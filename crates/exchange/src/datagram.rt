@@ -106,6 +106,7 @@ fn at_start(local: Endpoint) -> Progress
         fresh: false,
         reached: Reached {
             marks: [false; MOST_NODES],
+            levels: 0,
             digest: [0; 16],
         },
     }

@@ -93,7 +93,7 @@ look-bare (Look.sums clock r) s m h n =
 look-bare (Look.marks clock r) s m h n =
     let e = h .is ∙ refusals-change-nothing .marking clock (length m) (stateOf s m) (λ w. n (ap (λ (d : ModelMarks). d .number) (h .is) ∙ w)) in
     let k : r .count ≡ 0 = nothing-taken (r .count) (r .nodes) (omega (arith, h .few, h .wide)) (ap (λ (d : ModelMarks). d .nodes) e) in
-    (k, (subst (λ (i : ℕ). drop i (r .nodes) ≡ replicate (mostNodes - i) 0) k (h .rest), ap (λ (d : ModelMarks). d .digest) e))
+    (k, ap (λ (d : ModelMarks). d .lastLevel) e, subst (λ (i : ℕ). drop i (r .nodes) ≡ replicate (mostNodes - i) 0) k (h .rest), ap (λ (d : ModelMarks). d .digest) e)
 look-bare (Look.saves clock q r q′) s m h n =
     let e = h .is ∙ refusals-change-nothing .saves clock (length m) (length q) (stateOf s m) (λ w. n (ap (λ (d : ModelSaved). d .number) (h .is) ∙ w)) in
     let k : r .length ≡ 0 = nothing-taken (r .length) q′ (h .within) (ap (λ (d : ModelSaved). d .bytes) e) in

@@ -1,11 +1,11 @@
 -- Demand 2 over the calls' promises: only nodes to which a chain leads are marked, summed or sent. Assumes nothing.
 use mathlib.Core.Path.{_≡_, refl, sym, ap, subst, _∙_}
 use mathlib.Core.Bool.{Bool, true, false, cond}
-use mathlib.Core.List.{List, [], _∷_, _++_, map, append-nil}
+use mathlib.Core.List.{List, [], _∷_, _++_, append-nil}
 use mathlib.Core.Logic.{_⊎_, inl, inr, ⊎-elim}
 use Prim.Native.Nat.{ℕ, _≤_}
 use native.Mathlib.Omega.{arith}
-use lib.ListN.{length, take, replicate}
+use lib.ListN.{length, take}
 use Rattle.base.specs.Lists.{In, joinAll}
 use Rattle.base.specs.Bytes.{big32}
 use Rattle.base.specs.Sorted.{Ascending}
@@ -16,7 +16,7 @@ use Rattle.model.specs.Table.{Entry, idOf, statements}
 use Rattle.model.specs.Reach.{inReach, reached}
 use Rattle.model.specs.Messages.{endpointTlv, networkTlv}
 use Rattle.model.specs.Digest.{networkDigest}
-use Rattle.model.specs.Show.{Marks as ModelMarks, refusalMarks, marks}
+use Rattle.model.specs.Show.{Marks as ModelMarks, markedAt, notMarked, refusalMarks, marks}
 use Rattle.model.specs.Totals.{Summed as ModelSummed, totalOf, sumOf, unreadable, paymentsIn}
 use Rattle.model.specs.Figures.{tableBytes}
 use Rattle.model.specs.State.{State as ModelState, endpointAt, randomAt, settle}
@@ -82,12 +82,12 @@ module _ (clock : ℕ) (s : State) (m : List ℕ) where
   abbrev pub counted : List Entry
   counted = reached (s .own) clock (view (s .table) m)
 
-  pub marks-counted : (r : Marked) → Marks clock s m r → r .number ≡ 0
-      → marksOf r ≡ record { number = 0; nodes = map idOf counted; digest = networkDigest (s .own) clock (view (s .table) m) }
+  pub marks-number : (r : Marked) → Marks clock s m r → r .number ≡ refusalMarks clock (length m) (stateOf s m)
+  marks-number r h = ap (λ (x : ModelMarks). x .number) (h .is) ∙ refusals-exact .marking clock (length m) (stateOf s m) .answered
+
+  pub marks-counted : (r : Marked) → Marks clock s m r → r .number ≡ 0 → marksOf r ≡ markedAt (s .own) clock (view (s .table) m)
   unfolding marks stateOf
-  marks-counted r h z =
-      let n : r .number ≡ refusalMarks clock (length m) (stateOf s m) = ap (λ (x : ModelMarks). x .number) (h .is) ∙ refusals-exact .marking clock (length m) (stateOf s m) .answered in
-      h .is ∙ sym (as-accepted (r .number) (refusalMarks clock (length m) (stateOf s m)) n _ (λ k. record { number = k; nodes = []; digest = replicate 16 0 }) z)
+  marks-counted r h z = h .is ∙ sym (as-accepted (r .number) (refusalMarks clock (length m) (stateOf s m)) (marks-number r h) _ notMarked z)
 
   pub sum-counted : (r : Summed) → SumsUp clock s m r → r .number ≡ 0
       → summedOf r ≡ record { number = 0; value = sumOf (statements counted); unread = unreadable (paymentsIn (statements counted)) }

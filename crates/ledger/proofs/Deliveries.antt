@@ -15,19 +15,19 @@ use Rattle.base.proofs.Lists.{in-map, map-in, map-keep, keep-same}
 use Rattle.base.proofs.Sorted.{one-each}
 use Rattle.model.specs.Figures.{mostNodes, tableBytes, mostBytes}
 use Rattle.model.specs.Table.{Entry, Statement, idOf, statements}
-use Rattle.model.specs.Reach.{inReach, reached}
+use Rattle.model.specs.Reach.{Vertex, levels, inReach, reached}
 use Rattle.model.specs.Digest.{networkDigest}
 use Rattle.model.specs.State.{State as ModelState}
 use Rattle.model.specs.Receive.{Call, Answer as ModelAnswer, receive}
 use Rattle.model.specs.Delivery.{accepted, next, run, heard, Holds, SameHeard, Under, Premises, Alike}
-use Rattle.model.proofs.Delivery.{order-loses-nothing}
+use Rattle.model.proofs.Delivery.{same-seen, order-loses-nothing}
 use Rattle.model.proofs.KeptReceive.{receive-own}
 use Rattle.model.proofs.Refusals.{refusals-change-nothing, refusals-exact}
 use Rattle.table.specs.View.{view}
 use Rattle.table.proofs.Tables.{view-ascending}
 use Rattle.node.specs.View.{stateOf}
 use Rattle.node.specs.declared.State.{State}
-use Rattle.model.specs.Show.{Marks as ModelMarks}
+use Rattle.model.specs.Show.{Marks as ModelMarks, markedAt}
 use Rattle.ledger.specs.declared.answers.Marked.{Marked}
 use Rattle.ledger.specs.Promises.{Lists, marksOf, Marks}
 use Rattle.ledger.specs.Demands.{Delivery, Joined, callIn, callsOf, tableThen, stateThen, memoryThen, known, Delivered, DeliveryLosesNothing}
@@ -143,7 +143,7 @@ same-marked d e a b x y p =
     let n : a .nodes ≡ b .nodes =
     sym (take-append-drop (a .count) (a .nodes)) ∙ ap (λ (l : List ℕ). l ++ drop (a .count) (a .nodes)) t
     ∙ ap (λ (l : List ℕ). take (b .count) (b .nodes) ++ l) (x .rest ∙ ap (λ (k : ℕ). replicate (mostNodes - k) 0) c ∙ sym (y .rest)) ∙ take-append-drop (b .count) (b .nodes) in
-    λ i. record { number = p i .number; count = c i; nodes = n i; digest = p i .digest }
+    λ i. record { number = p i .number; count = c i; levels = p i .lastLevel; nodes = n i; digest = p i .digest }
 
 own-after : (s : State) (m : List ℕ) (xs : List Delivery) → Joined s m xs → stateThen s xs .own ≡ s .own
 unfolding stateOf
@@ -159,29 +159,27 @@ ids-says : (t : List Entry) → map idOf t ≡ map (λ (x : Statement). x .node)
 ids-says [] = refl
 ids-says (e ∷ t) = ap (λ (l : List ℕ). idOf e ∷ l) (ids-says t)
 
-abbrev shown : ℕ → ℕ → List Entry → ModelMarks
-shown own clock t = record { number = 0; nodes = map idOf (reached own clock t); digest = networkDigest own clock t }
-
 module _ (s : State) (m : List ℕ) (clock : ℕ) where
-  marks-after : (xs : List Delivery) → Joined s m xs → (a : Marked) → Marks clock (stateThen s xs) (memoryThen m xs) a → a .number ≡ 0 → marksOf a ≡ shown (s .own) clock (tableThen s m xs)
+  marks-after : (xs : List Delivery) → Joined s m xs → (a : Marked) → Marks clock (stateThen s xs) (memoryThen m xs) a → a .number ≡ 0 → marksOf a ≡ markedAt (s .own) clock (tableThen s m xs)
   marks-after xs j a h z =
-      marks-counted clock (stateThen s xs) (memoryThen m xs) a h z ∙ ap (λ (o : ℕ). shown o clock (view (stateThen s xs .table) (memoryThen m xs))) (own-after s m xs j)
+      marks-counted clock (stateThen s xs) (memoryThen m xs) a h z ∙ ap (λ (o : ℕ). markedAt o clock (view (stateThen s xs .table) (memoryThen m xs))) (own-after s m xs j)
 
   module _ (xs ys : List Delivery) (d : Delivered s m xs) (e : Delivered s m ys) (same : SameHeard (stateOf s m) (callsOf (length m) xs) (callsOf (length m) ys))
       (u : Under clock (tableThen s m xs)) (v : Under clock (tableThen s m ys)) where
-    shown-alike : shown (s .own) clock (tableThen s m xs) ≡ shown (s .own) clock (tableThen s m ys)
-    shown-alike =
+    marked-alike : markedAt (s .own) clock (tableThen s m xs) ≡ markedAt (s .own) clock (tableThen s m ys)
+    marked-alike =
         let r = alike s m xs ys d e same clock u v in
         let ids : map idOf (tableThen s m xs) ≡ map idOf (tableThen s m ys) =
         ids-says (tableThen s m xs) ∙ ap (map (λ (x : Statement). x .node)) (tables s m xs ys d e same) ∙ sym (ids-says (tableThen s m ys)) in
         let n : map idOf (reached (s .own) clock (tableThen s m xs)) ≡ map idOf (reached (s .own) clock (tableThen s m ys)) =
         ids-reached (s .own) clock (tableThen s m xs) ∙ keep-same (inReach (s .own) clock (tableThen s m xs)) (inReach (s .own) clock (tableThen s m ys)) (map idOf (tableThen s m xs)) (λ n k. r .0 n)
         ∙ ap (keep (inReach (s .own) clock (tableThen s m ys))) ids ∙ sym (ids-reached (s .own) clock (tableThen s m ys)) in
-        λ i. record { number = 0; nodes = n i; digest = r .1 i }
+        let l = ap (λ (vs : List Vertex). length (levels (s .own) vs)) (same-seen clock (tableThen s m xs) (tableThen s m ys) (tables s m xs ys d e same) u v) in
+        λ i. record { number = 0; nodes = n i; lastLevel = l i; digest = r .1 i }
 
     answers : (a b : Marked) → Marks clock (stateThen s xs) (memoryThen m xs) a → Marks clock (stateThen s ys) (memoryThen m ys) b → a .number ≡ 0 → b .number ≡ 0 → a ≡ b
     answers a b h k y z =
-        same-marked _ _ a b h k (marks-after xs (d .joined) a h y ∙ shown-alike ∙ sym (marks-after ys (e .joined) b k z))
+        same-marked _ _ a b h k (marks-after xs (d .joined) a h y ∙ marked-alike ∙ sym (marks-after ys (e .joined) b k z))
 
 pub delivery-loses-nothing : DeliveryLosesNothing
 delivery-loses-nothing =

@@ -15,5 +15,6 @@ pub mod Deliveries
 pub mod Traffic
 pub mod OwnPayments
 pub mod Quiet
+pub mod Levels
 pub mod Corollaries
 pub mod Returns

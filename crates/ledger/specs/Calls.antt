@@ -134,7 +134,7 @@ refusalsOf (PublicCall.looks x) s m = lookRefusals x s m
 abbrev pub LookBare : Look → Type 0
 LookBare (Look.totals clock household r) = (r .value ≡ pos 0) × (r .unread ≡ 0)
 LookBare (Look.sums clock r) = (r .value ≡ pos 0) × (r .unread ≡ 0)
-LookBare (Look.marks clock r) = (r .count ≡ 0) × ((r .nodes ≡ replicate mostNodes 0) × (r .digest ≡ replicate 16 0))
+LookBare (Look.marks clock r) = (r .count ≡ 0) × (r .levels ≡ 0) × (r .nodes ≡ replicate mostNodes 0) × (r .digest ≡ replicate 16 0)
 LookBare (Look.saves clock q r q′) = (r .length ≡ 0) × (q′ ≡ q)
 LookBare (Look.shows n r) = (r .start ≡ 0) × (r .length ≡ 0)
 LookBare (Look.asks n k) = Unit {0}

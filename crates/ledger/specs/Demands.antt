@@ -34,7 +34,7 @@ use Rattle.node.specs.declared.answers.Sent.{Sent}
 use Rattle.node.specs.declared.answers.Answer.{Answer}
 use Rattle.ledger.specs.declared.answers.Summed.{Summed}
 use Rattle.ledger.specs.declared.answers.Marked.{Marked}
-use Rattle.ledger.specs.Promises.{AsLeft, Blank, Receives, Ticks, Purges, Totals, SumsUp, Marks}
+use Rattle.ledger.specs.Promises.{AsLeft, Blank, listed, Receives, Ticks, Purges, Totals, SumsUp, Marks}
 use Rattle.ledger.specs.Calls.{PublicCall, Promised, stateAfter, memoryAfter, numberOf, refusalsOf, Bare, startsAnew, writtenBy, Trace, stateAtEnd, memoryAtEnd}
 
 -- ---- demand 1: "The caller hands back state and table as the last call left them and need check nothing"
@@ -99,7 +99,7 @@ pub record Serves (clock : ℕ) (w v : ModelWork) : Type 0 where
 
 pub record OnlyReachable : Type 0 where
   pub marked : (clock : ℕ) (s : State) (m : List ℕ) (r : Marked) → AsLeft s m → Marks clock s m r → r .number ≡ 0
-      → (es : List Entry) × Reachable (s .own) clock (view (s .table) m) es × (take (r .count) (r .nodes) ≡ map idOf es) × (r .digest ≡ digestOver es)
+      → (es : List Entry) × Reachable (s .own) clock (view (s .table) m) es × (listed r ≡ map idOf es) × (r .digest ≡ digestOver es)
   pub summed : (clock : ℕ) (s : State) (m : List ℕ) (r : Summed) → AsLeft s m → SumsUp clock s m r → r .number ≡ 0
       → (es : List Entry) × Reachable (s .own) clock (view (s .table) m) es × (r .value ≡ sumOf (statements es)) × (r .unread ≡ unreadable (paymentsIn (statements es)))
   pub totalled : (clock household : ℕ) (s : State) (m : List ℕ) (r : Summed) → AsLeft s m → Totals clock household s m r → r .number ≡ 0

@@ -6,3 +6,4 @@ pub mod Traffic
 pub mod Returning
 pub mod OwnPayments
 pub mod Quiet
+pub mod Levels

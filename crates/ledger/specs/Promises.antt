@@ -84,8 +84,11 @@ abbrev pub summedOf : Summed → ModelSummed
 summedOf r = record { number = r .number; value = r .value; unread = r .unread }
 
 -- marks: the nodes are the first places of the list, at most 32; the places behind them are 0, of a refusal all
+abbrev pub listed : Marked → List ℕ
+listed r = take (r .count) (r .nodes)
+
 abbrev pub marksOf : Marked → ModelMarks
-marksOf r = record { number = r .number; nodes = take (r .count) (r .nodes); digest = r .digest }
+marksOf r = record { number = r .number; nodes = listed r; lastLevel = r .levels; digest = r .digest }
 
 pub record Lists (d : ModelMarks) (r : Marked) : Type 0 where
   pub is : marksOf r ≡ d

@@ -16,6 +16,9 @@ pub struct Summed {
 pub struct Marked {
     pub number: u32,
     pub count: usize,
+    // The number of the last level: how many steps it takes from our own node, level 0, to the farthest reachable one. The marking passes over the table once
+    // more than that.
+    pub levels: usize,
     // The first count are the identifiers of the reachable nodes, ascending; the others are 0.
     pub nodes: [u32; MOST_NODES],
     // The network digest.

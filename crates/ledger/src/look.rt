@@ -97,7 +97,7 @@ pub extern "C" fn pingvratha_sum(state: State, memory: &[u8], clock: u64) -> Sum
     )
 }
 
-// The reachable nodes, whose payments are summed, and the network digest.
+// The reachable nodes, whose payments are summed, how far they go, and the network digest.
 #[no_mangle]
 pub extern "C" fn pingvratha_marks(state: State, memory: &[u8], clock: u64) -> Marked
     requires { ⌜ AsLeft state (now memory) ⌝ }
@@ -108,6 +108,7 @@ pub extern "C" fn pingvratha_marks(state: State, memory: &[u8], clock: u64) -> M
         return Marked {
             number,
             count: 0,
+            levels: 0,
             nodes: [0; MOST_NODES],
             digest: [0; 16],
         };
@@ -120,6 +121,7 @@ pub extern "C" fn pingvratha_marks(state: State, memory: &[u8], clock: u64) -> M
     Marked {
         number: 0,
         count: n.count,
+        levels: found.levels,
         nodes,
         digest,
     }

@@ -25,10 +25,11 @@ pub fn summed(label: &[u8], number: u32, value: i64, unread: u32) {
     end();
 }
 
-// How many nodes are reachable, the network digest, and their identifiers.
-pub fn marked(number: u32, count: usize, digest: &[u8], nodes: &[u32]) {
+// How many nodes are reachable, the last level, the network digest, and their identifiers.
+pub fn marked(number: u32, count: usize, levels: usize, digest: &[u8], nodes: &[u32]) {
     labelled_word(b"marks ", number);
     labelled_size(b" ", count);
+    labelled_size(b" ", levels);
     if number != 0 {
         write(b" -\n");
         return;

@@ -83,6 +83,9 @@ all-young clock (e ∷ t) u =
     let r = all-young clock t (λ f m. u f (inr m)) in
     λ i. record { says = e .says; young = h i } ∷ r i
 
+pub same-seen : (clock : ℕ) (t u : List Entry) → statements t ≡ statements u → Under clock t → Under clock u → vertices clock t ≡ vertices clock u
+same-seen clock t u e v w = all-young clock t v ∙ ap (map young) e ∙ sym (all-young clock u w)
+
 -- what is reachable depends on our identifier, the vertices and the statements
 reached-says : (own clock : ℕ) (t : List Entry) → statements (reached own clock t) ≡ keep (λ x. marked own (vertices clock t) (x .node)) (statements t)
 unfolding reached inReach
@@ -123,7 +126,7 @@ module _ (s : State) (cs : List Call) (p : Premises s cs) where
     same-own = own-stays cs s (p .lone) ∙ sym (own-stays ds s (q .lone))
 
     same-vertices : (clock : ℕ) → Under clock (run s cs .table) → Under clock (run s ds .table) → vertices clock (run s cs .table) ≡ vertices clock (run s ds .table)
-    same-vertices clock u v = all-young clock (run s cs .table) u ∙ ap (map young) same-table ∙ sym (all-young clock (run s ds .table) v)
+    same-vertices clock u v = same-seen clock (run s cs .table) (run s ds .table) same-table u v
 
     alike : Alike s cs ds
     unfolding inReach networkDigest

@@ -1,20 +1,20 @@
 -- The levels are the chains: which nodes are reachable, and at how many steps. Assumes nothing.
 use mathlib.Core.Path.{_≡_, refl, sym, ap, _∙_, subst}
-use mathlib.Core.Bool.{true, false, not, _&&_}
+use mathlib.Core.Bool.{Bool, true, false, not, _&&_}
 use mathlib.Core.List.{List, [], _∷_, _++_}
 use mathlib.Core.Logic.{_⊎_, inl, inr, ⊎-elim}
-use Prim.Native.Nat.{ℕ, zero, suc, _+_, _≤_, zero-le, suc-le-suc}
+use Prim.Native.Nat.{ℕ, zero, suc, _+_, _≤_, zero-le}
 use native.Mathlib.Nat.{le-refl}
 use native.Mathlib.Omega.{arith}
-use lib.ListN.{length, take, length-map}
+use lib.ListN.{length, take, length-map, length-append}
 use borrow.Author.Tests.{eqb-true, eq-eqb}
-use Rattle.base.specs.Lists.{keep, joinAll, isSome, In}
+use Rattle.base.specs.Lists.{any, keep, joinAll, isSome, In}
 use Rattle.base.specs.Sorted.{Ascending}
 use Rattle.base.proofs.Tests.{no-way, by-test, and-left, and-right, and-both, not-no}
-use Rattle.base.proofs.Lists.{in-append, in-left, in-right, in-keep, keep-in, any-in, in-any, keep-length, in-map, in-some}
+use Rattle.base.proofs.Lists.{in-append, in-left, in-right, in-keep, keep-in, any-in, in-any, keep-length, keep-both, keep-append, keep-every, map-keep, in-map, in-some}
 use Rattle.base.proofs.Sorted.{by-find, find-some, keep-ascending}
-use Rattle.model.specs.Table.{Entry, idOf, underAge, look}
-use Rattle.model.specs.Reach.{Vertex, vertices, joined, touched, isNode, levelsFrom, level0, others, levels, met, marked, inReach, reached}
+use Rattle.model.specs.Table.{Entry, idOf, look}
+use Rattle.model.specs.Reach.{Vertex, vertexOf, vertices, joined, touched, isNode, levelsFrom, level0, others, levels, lastLevel, met, marked, inReach, reached}
 use Rattle.model.specs.Chain.{Chain, here, step}
 use Rattle.model.specs.State.{State}
 use Rattle.model.specs.Invariant.{Valid}
@@ -23,30 +23,41 @@ use Rattle.model.specs.Theorems.{Chained, LevelsAreChains}
 -- ---- one level more
 
 -- those of the rest that a level doesn't touch
-abbrev untouched : List Vertex → List Vertex → List Vertex
+abbrev pub untouched : List Vertex → List Vertex → List Vertex
 untouched level rest = keep (λ v. not (touched level v)) rest
 
 -- the levels after one that has a next, and after the last
-levels-more : (f : ℕ) (rest level : List Vertex) (v : Vertex) (vs : List Vertex) → keep (touched level) rest ≡ v ∷ vs
+pub levels-more : (f : ℕ) (rest level : List Vertex) (v : Vertex) (vs : List Vertex) → keep (touched level) rest ≡ v ∷ vs
     → levelsFrom (suc f) rest level ≡ (v ∷ vs) ∷ levelsFrom f (untouched level rest) (v ∷ vs)
 unfolding levelsFrom
 levels-more f rest level v vs e = rw e
 
-levels-end : (f : ℕ) (rest level : List Vertex) → keep (touched level) rest ≡ [] → levelsFrom (suc f) rest level ≡ []
+pub levels-end : (f : ℕ) (rest level : List Vertex) → keep (touched level) rest ≡ [] → levelsFrom (suc f) rest level ≡ []
 unfolding levelsFrom
 levels-end f rest level e = rw e
 
-by-level {ℓ} : {X : Type ℓ} (l : List Vertex) → (l ≡ [] → X) → ((v : Vertex) (vs : List Vertex) → l ≡ v ∷ vs → X) → X
+pub by-level {ℓ} : {X : Type ℓ} (l : List Vertex) → (l ≡ [] → X) → ((v : Vertex) (vs : List Vertex) → l ≡ v ∷ vs → X) → X
 by-level [] f g = f refl
 by-level (v ∷ vs) f g = g v vs refl
 
--- no more levels than the count
-levels-from-few : (f : ℕ) (rest level : List Vertex) → length (levelsFrom f rest level) ≤ f
+-- no level after one is empty: they hold as many nodes at least as they are
+hold-each : (f : ℕ) (rest level : List Vertex) → length (levelsFrom f rest level) ≤ length (joinAll (levelsFrom f rest level))
 unfolding levelsFrom
-levels-from-few zero rest level = zero-le
-levels-from-few (suc f) rest level =
+hold-each zero rest level = zero-le
+hold-each (suc f) rest level =
     by-level (keep (touched level) rest) (λ e. rw (levels-end f rest level e) zero-le)
-    (λ v vs e. rw (levels-more f rest level v vs e) (suc-le-suc (levels-from-few f (untouched level rest) (v ∷ vs))))
+    (λ v vs e. let more : List (List Vertex) = levelsFrom f (untouched level rest) (v ∷ vs) in
+    rw (levels-more f rest level v vs e) (omega (arith, hold-each f (untouched level rest) (v ∷ vs), length-append (v ∷ vs) (joinAll more))))
+
+-- and of each kind no more than the rest has
+levels-among : (p : Vertex → Bool) (f : ℕ) (rest level : List Vertex) → length (keep p (joinAll (levelsFrom f rest level))) ≤ length (keep p rest)
+unfolding levelsFrom
+levels-among p zero rest level = zero-le
+levels-among p (suc f) rest level =
+    by-level (keep (touched level) rest) (λ e. rw (levels-end f rest level e) zero-le)
+    (λ v vs e. let more : List (List Vertex) = levelsFrom f (untouched level rest) (v ∷ vs) in
+    rw (levels-more f rest level v vs e, keep-append p (v ∷ vs) (joinAll more))
+    (omega (arith, length-append (keep p (v ∷ vs)) (keep p (joinAll more)), levels-among p f (untouched level rest) (v ∷ vs), keep-both p (touched level) rest, ap (λ (l : List Vertex). length (keep p l)) e)))
 
 -- touched: by a node of the level that is under age and joined
 touched-by : (level : List Vertex) (v : Vertex) → touched level v ≡ true
@@ -158,17 +169,19 @@ module _ (own : ℕ) (t : List Vertex) where
       (closed (length (others own t)) (others own t) (level0 own t) (le-refl (length (others own t))) k r v ih y j
       (in-keep (λ v. not (isNode own v)) v t m (not-no (isNode own v) b))))
 
-  -- after the first no more levels than other nodes
-  pub levels-few : length (levels own t) ≤ length (others own t)
-  unfolding levels
-  levels-few = levels-from-few (length (others own t)) (others own t) (level0 own t)
+  -- met: no node twice, and more nodes than levels after the first, where our own is held
+  met-once : (p : Vertex → Bool) → length (keep p (met own t)) ≤ length (keep p t)
+  unfolding levels met
+  met-once p =
+      rw (keep-append p (level0 own t) (joinAll (levels own t)))
+      (omega (arith, length-append (keep p (level0 own t)) (keep p (joinAll (levels own t))), levels-among p (length (others own t)) (others own t) (level0 own t), keep-both p (isNode own) t))
 
-  -- where our own node is held: no more levels in all than nodes
-  pub levels-less : (v : Vertex) → In v t → v .says .node ≡ own → length (levels own t) + 1 ≤ length t
-  levels-less v m e =
-      omega (arith, levels-few, keep-length (isNode own) t, in-some v (level0 own t) (in-keep (isNode own) v t m (eq-eqb (v .says .node) own e)))
+  levels-met : (v : Vertex) → In v t → v .says .node ≡ own → length (levels own t) + 1 ≤ length (met own t)
+  unfolding levels met
+  levels-met v m e =
+      omega (arith, length-append (level0 own t) (joinAll (levels own t)), hold-each (length (others own t)) (others own t) (level0 own t), in-some v (level0 own t) (in-keep (isNode own) v t m (eq-eqb (v .says .node) own e)))
 
-  joined-level : (k : ℕ) (ls : List (List Vertex)) (v : Vertex) → In v (joinAll ls) → (n : ℕ) × AtLevel k ls n v
+  pub joined-level : (k : ℕ) (ls : List (List Vertex)) (v : Vertex) → In v (joinAll ls) → (n : ℕ) × AtLevel k ls n v
   joined-level k [] v m = absurd m
   joined-level k (l ∷ ls) v m =
       ⊎-elim (λ h. (k, inl (refl, h))) (λ h. let q = joined-level (suc k) ls v h in (q .0, inr (q .1))) (in-append v l (joinAll ls) m)
@@ -198,11 +211,11 @@ module _ (own clock : ℕ) (t : List Entry) where
   reach-chain n e =
       let r = in-any (isNode n) (met own (vertices clock t)) e in
       let c = met-chain own (vertices clock t) (r .0) (r .1) in
-      (c .0, r .0, c .1, eqb-true (r .0 .says .node) n (r .2))
+      (c .0, (r .0, c .1, eqb-true (r .0 .says .node) n (r .2)))
 
   pub chain-reach : (n : ℕ) → Chained own clock t n → inReach own clock t n ≡ true
   unfolding inReach marked
-  chain-reach n c = any-in (isNode n) (c .1) (met own (vertices clock t)) (chain-met own (vertices clock t) (c .2)) (eq-eqb (c .1 .says .node) n (c .3))
+  chain-reach n c = any-in (isNode n) (c .1 .0) (met own (vertices clock t)) (chain-met own (vertices clock t) (c .1 .1)) (eq-eqb (c .1 .0 .says .node) n (c .1 .2))
 
   pub in-reached : (e : Entry) → In e t → inReach own clock t (idOf e) ≡ true → In e (reached own clock t)
   unfolding reached
@@ -225,13 +238,24 @@ own-held {s} v =
     by-find idOf (s .own) (s .table) (λ q. no-way false (sym (ap isSome q) ∙ v .inside .table .held) refl)
     (λ e q. let r = find-some idOf (s .own) e (s .table) q in (e, r .0, r .1))
 
-own-vertex : {s : State} → Valid s → (clock : ℕ) → (v : Vertex) × In v (vertices clock (s .table)) × (v .says .node ≡ s .own)
+pub own-vertex : {s : State} → Valid s → (clock : ℕ) → (v : Vertex) × In v (vertices clock (s .table)) × (v .says .node ≡ s .own)
 own-vertex {s} v clock =
-    let h = own-held v in (record { says = h .0 .says; young = underAge clock (h .0) }, in-map _ (h .0) (s .table) (h .1), h .2)
+    let h = own-held v in (vertexOf clock (h .0), in-map _ (h .0) (s .table) (h .1), h .2)
 
 -- it is reachable at every reading
 pub own-reached : {s : State} → Valid s → (clock : ℕ) → inReach (s .own) clock (s .table) (s .own) ≡ true
-own-reached {s} v clock = let h = own-vertex v clock in chain-reach (s .own) clock (s .table) (s .own) (0, h .0, here (h .1) (h .2), h .2)
+own-reached {s} v clock = let h = own-vertex v clock in chain-reach (s .own) clock (s .table) (s .own) (0, (h .0, here (h .1) (h .2), h .2))
+
+-- fewer levels come after it than nodes are reachable
+levels-few : {s : State} → Valid s → (clock : ℕ) → lastLevel (s .own) clock (s .table) + 1 ≤ length (reached (s .own) clock (s .table))
+unfolding reached inReach marked
+levels-few {s} v clock =
+    let h = own-vertex v clock in
+    let t : List Vertex = vertices clock (s .table) in
+    let p : Vertex → Bool = λ u. any (isNode (u .says .node)) (met (s .own) t) in
+    let all : keep p (met (s .own) t) ≡ met (s .own) t =
+    keep-every p (met (s .own) t) (λ u m. any-in (isNode (u .says .node)) u (met (s .own) t) m (eq-eqb (u .says .node) (u .says .node) refl)) in
+    omega (arith, levels-met (s .own) t (h .0) (h .1) (h .2), met-once (s .own) t p, ap length all, ap length (map-keep (vertexOf clock) p (s .table)), length-map (keep (λ e. p (vertexOf clock e)) (s .table)) (vertexOf clock))
 
 pub levels-are-chains : LevelsAreChains
 levels-are-chains =
@@ -239,7 +263,5 @@ levels-are-chains =
       same = λ own clock t n. (reach-chain own clock t n, chain-reach own clock t n);
       entries = λ own clock t e. (reached-in own clock t e, λ h. in-reached own clock t e (h .0) (h .1));
       sorted = reached-ascending;
-      few = λ s clock v. let h = own-vertex v clock in
-          let l : length (vertices clock (s .table)) ≡ length (s .table) = length-map (s .table) _ in
-          omega (arith, levels-less (s .own) (vertices clock (s .table)) (h .0) (h .1) (h .2));
+      few = λ s clock v. levels-few v clock;
     }

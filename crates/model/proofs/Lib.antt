@@ -27,6 +27,7 @@ pub mod Waiting
 pub mod Sendings
 pub mod Marked
 pub mod Levels
+pub mod Shortest
 pub mod Turns
 pub mod Refusals
 pub mod ReadBack

@@ -75,5 +75,11 @@ session =
       unknown = refl;
       resumed = refl;
       unasked = refl;
+      lonely = refl;
+      fromEnd = refl;
+      fromMiddle = refl;
+      cutOff = refl;
+      tooOld = refl;
+      shortcut = refl;
       sampled = refl;
     }

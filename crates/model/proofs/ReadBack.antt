@@ -80,7 +80,7 @@ digest-is own clock t = ap (λ (ps : List (List ℕ)). hash16 (joinAll ps)) (par
 alone-reached : (own clock : ℕ) (e : Entry) → idOf e ≡ own → reached own clock (e ∷ []) ≡ e ∷ []
 unfolding reached
 alone-reached own clock e h =
-    let r : inReach own clock (e ∷ []) (idOf e) ≡ true = chain-reach own clock (e ∷ []) (idOf e) (0, _, here (inl refl) h, refl) in rw r
+    let r : inReach own clock (e ∷ []) (idOf e) ≡ true = chain-reach own clock (e ∷ []) (idOf e) (0, (_, here (inl refl) h, refl)) in rw r
 
 digest-alone : (own clock : ℕ) (e : Entry) → idOf e ≡ own → networkDigest own clock (e ∷ []) ≡ hash16 (big32 (e .says .seq) ++ hash16 (e .says .nodeData))
 digest-alone own clock e h =

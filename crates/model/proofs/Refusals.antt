@@ -1,18 +1,14 @@
 -- Refusals: a call that is refused answers the first number of its table that applies and nothing else, and changes no state. Assumes nothing.
 use mathlib.Core.Path.{_≡_, refl, sym, ap, _∙_}
 use mathlib.Core.Bool.{Bool, true, false, not, cond, _&&_}
-use mathlib.Core.List.{List, [], _∷_, _++_, map}
+use mathlib.Core.List.{List, [], _∷_, _++_}
 use mathlib.Core.Logic.{inl, inr}
 use Prim.Native.Nat.{ℕ}
-use lib.ListN.{replicate}
 use lib.Dec.{eqb}
 use borrow.Author.Tests.{eqb-true, eqb-false, ne-eqb}
 use Rattle.base.specs.Lists.{any, orElse, In, All}
 use Rattle.base.proofs.Tests.{by-test, and-left, and-right, no-not}
 use Rattle.base.proofs.Lists.{not-any}
-use Rattle.model.specs.Table.{idOf}
-use Rattle.model.specs.Reach.{reached}
-use Rattle.model.specs.Digest.{networkDigest}
 use Rattle.model.specs.State.{State}
 use Rattle.model.specs.Refusals.{Row, firstOf}
 use Rattle.model.specs.Begin.{Done, begun, refusalBegin, begin}
@@ -21,7 +17,7 @@ use Rattle.model.specs.Tick.{Sent, ticked, refusalTick, tick}
 use Rattle.model.specs.KeepAlive.{chosen, refusalKeepAlive, keepAlive}
 use Rattle.model.specs.Pay.{paid, refusalPay, pay, purged, refusalPurge, purge}
 use Rattle.model.specs.Totals.{Summed, totalOf, sumOf, unreadable, paymentsIn, reachable, notSummed, refusalTotal, total, refusalSum, sum}
-use Rattle.model.specs.Show.{Marks, refusalMarks, marks, refusalShow, shown}
+use Rattle.model.specs.Show.{Marks, markedAt, notMarked, refusalMarks, marks, refusalShow, shown}
 use Rattle.model.specs.Snapshot.{Saved, saved, refusalSave, save, load, resumed, refusalResume, resume}
 use Rattle.model.specs.Theorems.{RefusalsChangeNothing, Exact, RefusalsExact}
 
@@ -63,9 +59,7 @@ refusals-change-nothing =
           (record { number = 0; value = totalOf h (reachable clock s); unread = unreadable (paymentsIn (reachable clock s)) }) notSummed refl (λ k. refl);
       sums = λ clock table s. refused-as (λ a. a .number) (refusalSum clock table s)
           (record { number = 0; value = sumOf (reachable clock s); unread = unreadable (paymentsIn (reachable clock s)) }) notSummed refl (λ k. refl);
-      marking = λ clock table s. refused-as (λ a. a .number) (refusalMarks clock table s)
-          (record { number = 0; nodes = map idOf (reached (s .own) clock (s .table)); digest = networkDigest (s .own) clock (s .table) })
-          (λ n. record { number = n; nodes = []; digest = replicate 16 0 }) refl (λ k. refl);
+      marking = λ clock table s. refused-as (λ a. a .number) (refusalMarks clock table s) (markedAt (s .own) clock (s .table)) notMarked refl (λ k. refl);
       saves = λ clock table room s. refused-as (λ a. a .number) (refusalSave clock table room s)
           (record { number = 0; bytes = saved (s .own) clock (s .table) }) (λ n. record { number = n; bytes = [] }) refl (λ k. refl);
       shows = λ n table s h. rw (ne-eqb (refusalShow n table s) 0 h);

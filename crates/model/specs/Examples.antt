@@ -14,7 +14,7 @@ use Rattle.wire.specs.Payment.{Payment, folded, paymentTlv}
 use Rattle.model.specs.Figures.{usualInterval, tableBytes, mostBytes, snapshotBytes}
 use Rattle.model.specs.Sequence.{older}
 use Rattle.model.specs.Table.{Entry, entryOf, statements, stamp, anew}
-use Rattle.model.specs.Reach.{inReach}
+use Rattle.model.specs.Reach.{lastLevel, inReach}
 use Rattle.model.specs.State.{State, Peer, Endpoint, peerTlv}
 use Rattle.model.specs.Messages.{requestNetworkTlv, requestNodeTlv, endpointTlv, networkTlv}
 use Rattle.model.specs.Decide.{Decision, receivedOf, decide}
@@ -49,6 +49,14 @@ out a b = not (inReach 1 0 (aged 1 0 (a ∷ []) ∷ aged 2 0 (b ∷ []) ∷ []) 
 -- A - B - C, where B has the age given
 abbrev pub line : ℕ → List Entry
 line age = aged 1 0 (names 2 1 1 ∷ []) ∷ aged 2 age (names 1 1 1 ∷ names 3 1 2 ∷ []) ∷ aged 3 0 (names 2 2 1 ∷ []) ∷ []
+
+-- a node that names two others
+abbrev pub between : ℕ → ℕ → ℕ → Entry
+between n a b = aged n 0 (names a 1 1 ∷ names b 1 1 ∷ [])
+
+-- A - B - C - D - E, and E is joined to A as well
+abbrev pub closed : List Entry
+closed = between 1 2 5 ∷ between 2 1 3 ∷ between 3 2 4 ∷ between 4 3 5 ∷ between 5 1 4 ∷ []
 
 -- a row for each example: in 10 B, and then A, names a third node instead; in 11 one endpoint differs, and then the other
 unfoldable pub examples : List Bool
@@ -232,5 +240,13 @@ pub record Session : Type 0 where
   -- resuming drops our peers and their TLVs, publishes once and has asked nothing yet; what was saved of node 2 stays, as old as it was
   pub resumed : kept again ≡ ([], entryOf 1 2 [] (anew 9) ∷ entryOf 2 5 (names 1 1 7) (stamp 2 9) ∷ [])
   pub unasked : map (λ e. e .next) (again .endpoints) ≡ noughts4
+  -- the last level: of a node alone; from an end of A - B - C, and from its middle; the same where B is at the age limit; and where E, last of five, is
+  -- joined to A, and so stands in level 1 and D in level 2
+  pub lonely : lastLevel 1 0 (aged 1 0 [] ∷ []) ≡ 0
+  pub fromEnd : lastLevel 1 0 (line 0) ≡ 2
+  pub fromMiddle : lastLevel 2 0 (line 0) ≡ 1
+  pub cutOff : lastLevel 1 0 (line 4294934528) ≡ 1
+  pub tooOld : lastLevel 2 0 (line 4294934528) ≡ 0
+  pub shortcut : lastLevel 1 0 closed ≡ 2
   -- the sample snapshot loads, and sums to 1,250 cents
   pub sampled : orElse (load 0 sample) (pos 0) (λ b. sumOf (statements (b .entries))) ≡ pos 1250

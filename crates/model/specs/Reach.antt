@@ -37,8 +37,11 @@ pub record Vertex : Type 0 where
   pub says : Statement
   pub young : Bool
 
+abbrev pub vertexOf : ℕ → Entry → Vertex
+vertexOf clock e = record { says = e .says; young = underAge clock e }
+
 abbrev pub vertices : ℕ → List Entry → List Vertex
-vertices clock t = map (λ e. record { says = e .says; young = underAge clock e }) t
+vertices clock t = map (vertexOf clock) t
 
 -- v is joined to a node of the level that is under age
 unfoldable pub touched : List Vertex → Vertex → Bool
@@ -69,6 +72,10 @@ others own t = keep (λ v. not (isNode own v)) t
 -- the levels after the first: at most as many as there are other nodes
 unfoldable pub levels : ℕ → List Vertex → List (List Vertex)
 levels own t = levelsFrom (length (others own t)) (others own t) (level0 own t)
+
+-- "the greatest ring number of the definition in 01" (document 02, How far does marking go?): our own node is level 0, and no level after it is empty
+abbrev pub lastLevel : ℕ → ℕ → List Entry → ℕ
+lastLevel own clock t = length (levels own (vertices clock t))
 
 unfoldable pub met : ℕ → List Vertex → List Vertex
 met own t = level0 own t ++ joinAll (levels own t)

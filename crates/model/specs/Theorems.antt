@@ -20,7 +20,7 @@ use Rattle.sha256.specs.Sha256.{hash16}
 use Rattle.model.specs.Figures.{mostNodes, mostEndpoints, mostBytes, snapshotBytes, mostAge}
 use Rattle.model.specs.Sequence.{circle}
 use Rattle.model.specs.Table.{Entry, Statement, idOf, entryOf, ageAt, look, put, stamp}
-use Rattle.model.specs.Reach.{Vertex, vertices, levels, inReach, reached}
+use Rattle.model.specs.Reach.{Vertex, vertices, lastLevel, inReach, reached}
 use Rattle.model.specs.Chain.{Chain}
 use Rattle.model.specs.Digest.{networkDigest}
 use Rattle.model.specs.Trickle.{Trickle}
@@ -47,15 +47,25 @@ pub record MarkedExamples : Type 0 where
 
 -- 2. Reachable by levels, as document 01 has it, exactly when there is a chain as demand 2 has it: mutual Peer TLVs, joined endpoint to endpoint, from
 -- our own node, every node on it but the last under the age limit. The reachable entries are those of the table whose nodes are reachable, in the
--- table's order. After the first level there are at most nodes less one.
+-- table's order. Fewer levels come after our own node than there are reachable nodes.
+
+-- k steps of a chain lead to node n
+abbrev pub StepsTo : ℕ → ℕ → List Entry → ℕ → ℕ → Type 0
+StepsTo own clock t k n = (v : Vertex) × Chain own (vertices clock t) k v × (v .says .node ≡ n)
+
 abbrev pub Chained : ℕ → ℕ → List Entry → ℕ → Type 0
-Chained own clock t n = (k : ℕ) × (v : Vertex) × Chain own (vertices clock t) k v × (v .says .node ≡ n)
+Chained own clock t n = (k : ℕ) × StepsTo own clock t k n
 
 pub record LevelsAreChains : Type 0 where
   pub same : (own clock : ℕ) (t : List Entry) (n : ℕ) → (inReach own clock t n ≡ true) ↔ Chained own clock t n
   pub entries : (own clock : ℕ) (t : List Entry) (e : Entry) → In e (reached own clock t) ↔ (In e t × (inReach own clock t (idOf e) ≡ true))
   pub sorted : (own clock : ℕ) (t : List Entry) → Ascending idOf t → Ascending idOf (reached own clock t)
-  pub few : (s : State) (clock : ℕ) → Valid s → length (levels (s .own) (vertices clock (s .table))) + 1 ≤ length (s .table)
+  pub few : (s : State) (clock : ℕ) → Valid s → lastLevel (s .own) clock (s .table) + 1 ≤ length (reached (s .own) clock (s .table))
+
+-- Node n stands in level k by the shortest way: so many steps lead to it, and no fewer.
+pub record StandsIn (own clock : ℕ) (t : List Entry) (k n : ℕ) : Type 0 where
+  pub steps : StepsTo own clock t k n
+  pub fewest : (j : ℕ) → StepsTo own clock t j n → k ≤ j
 
 -- 3. The order of delivery loses nothing (demand 3): OrderLosesNothing, in Delivery.
 
@@ -158,7 +168,7 @@ pub record RefusalsChangeNothing : Type 0 where
       → total clock h table s ≡ record { number = total clock h table s .number; value = pos 0; unread = 0 }
   pub sums : (clock table : ℕ) (s : State) → ¬ (sum clock table s .number ≡ 0) → sum clock table s ≡ record { number = sum clock table s .number; value = pos 0; unread = 0 }
   pub marking : (clock table : ℕ) (s : State) → ¬ (marks clock table s .number ≡ 0)
-      → marks clock table s ≡ record { number = marks clock table s .number; nodes = []; digest = replicate 16 0 }
+      → marks clock table s ≡ record { number = marks clock table s .number; nodes = []; lastLevel = 0; digest = replicate 16 0 }
   pub saves : (clock table room : ℕ) (s : State) → ¬ (save clock table room s .number ≡ 0) → save clock table room s ≡ record { number = save clock table room s .number; bytes = [] }
   pub shows : (n table : ℕ) (s : State) → ¬ (refusalShow n table s ≡ 0) → shown n table s ≡ []
 

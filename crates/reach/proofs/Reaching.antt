@@ -9,13 +9,13 @@ use Rattle.base.specs.Lists.{any, keep, keepBy, joinAll, isSome}
 use Rattle.base.specs.Sorted.{Ascending}
 use Rattle.base.proofs.Tests.{no-way}
 use Rattle.base.proofs.Lists.{keep-length}
-use Rattle.base.proofs.Sorted.{ascending-map}
 use Rattle.base.proofs.Places.{getD-any}
 use Rattle.model.specs.Figures.{mostNodes}
-use Rattle.model.specs.Table.{Entry, idOf, underAge, look, statements}
+use Rattle.model.specs.Table.{Entry, idOf, look, statements}
 use Rattle.model.specs.Digest.{digestOf, networkDigest}
 use Rattle.model.specs.State.{noEntry}
-use Rattle.model.specs.Reach.{Vertex, vertices, isNode, level0, others, levels, met, marked, inReach, reached}
+use Rattle.model.specs.Reach.{vertices, isNode, level0, others, levels, met, marked, inReach, reached}
+use Rattle.model.proofs.Shortest.{nodeOf, nodes-ascend}
 use Rattle.table.specs.declared.Table.{Table}
 use Rattle.table.specs.declared.Found.{Found}
 use Rattle.table.specs.declared.Found.the-variants.{At, Missing}
@@ -26,12 +26,6 @@ use Rattle.reach.specs.Marks.{markedOf, noVertex, levelsAfter, Spread, M
 use Rattle.reach.proofs.Nodes.{vertex-at, vertices-length, few-nodes}
 use Rattle.base.proofs.Marks.{not-at, keep-by-places, marked-at, alone-at}
 use Rattle.reach.proofs.Waves.{levels-enough}
-
-abbrev nodeOf : Vertex → ℕ
-nodeOf v = v .says .node
-
-nodes-ascend : (clock : ℕ) (t : List Entry) → Ascending idOf t → Ascending nodeOf (vertices clock t)
-nodes-ascend clock t h = rw (ascending-map (λ (e : Entry). record { says = e .says; young = underAge clock e }) nodeOf t) h
 
 module _ (own clock : ℕ) (t : List Entry) (a : Ascending idOf t) (few : length t ≤ mostNodes) where
   node-is : (i : ℕ) → i < length t → nodeOf (getD (vertices clock t) i noVertex) ≡ idOf (getD t i noEntry)

@@ -7,7 +7,7 @@ use lib.ListN.{length, getD, take, drop, replicate}
 use Rattle.base.specs.Lists.{any, keepBy, joinAll, All}
 use Rattle.model.specs.Figures.{mostNodes, tableBytes, lastReading}
 use Rattle.model.specs.Table.{Entry, idOf, underAge}
-use Rattle.model.specs.Reach.{Link as ModelLink, Vertex, vertices, joined, touched, isNode, levelsFrom, levels, inReach}
+use Rattle.model.specs.Reach.{Link as ModelLink, Vertex, vertices, joined, touched, isNode, levelsFrom, lastLevel, inReach}
 use Rattle.model.specs.Digest.{networkDigest}
 use Rattle.model.specs.State.{noEntry}
 use Rattle.model.specs.Invariant.{EntryFits}
@@ -82,14 +82,15 @@ pub record Marking (own clock : ℕ) (t : List Entry) (marks : List Bool) : Type
   pub wide : Wide marks
   pub each : (i : ℕ) → i < length t → getD marks i false ≡ inReach own clock t (idOf (getD t i noEntry))
 
--- the marks, and how many levels come after our own node
+-- the marks, and how many levels come after our own node: the number of the last
 pub record Levelled (own clock : ℕ) (t : List Entry) (r : Traversed) : Type 0 where
   pub marks : Marking own clock t (r .marks)
-  pub count : r .levels ≡ length (levels own (vertices clock t))
+  pub count : r .levels ≡ lastLevel own clock t
 
--- marks and network digest
+-- marks, last level and network digest
 pub record Reaching (own clock : ℕ) (t : List Entry) (r : Reached) : Type 0 where
   pub marks : Marking own clock t (r .marks)
+  pub count : r .levels ≡ lastLevel own clock t
   pub digest : r .digest ≡ networkDigest own clock t
 
 -- the identifiers of the marked entries, in the table's order, and nothing behind them

@@ -14,14 +14,15 @@ ghost use Rattle.model.specs.Table.{look};
 ghost use Rattle.table.specs.View.{view};
 ghost use Rattle.reach.specs.Marks.{Readable, Reaching};
 
-// Marks for the places of the table, and the network digest.
+// Marks for the places of the table, the number of the last level, and the network digest.
 #[repr(C)]
 pub struct Reached {
     pub marks: [bool; MOST_NODES],
+    pub levels: usize,
     pub digest: [u8; 16],
 }
 
-// Marks and digest of the table as our own node sees it at a reading.
+// Marks, last level and digest of the table as our own node sees it at a reading.
 pub fn reach(t: Table, mem: &[u8], own: u32, clock: u64) -> Reached
     requires { ⌜ Readable clock t (now mem) × (isSome (look own (view t (now mem))) ≡ true) ⌝ }
     ensures { λ r. ⌜ Reaching own clock (view t (now (mem .entry))) r ⌝ }
@@ -30,6 +31,7 @@ pub fn reach(t: Table, mem: &[u8], own: u32, clock: u64) -> Reached
     let marks = m.marks;
     Reached {
         marks,
+        levels: m.levels,
         digest: digest::network_digest(t, marks),
     }
 }

@@ -109,13 +109,13 @@ fn onward(w: Wave, next: [bool; MOST_NODES]) -> Wave
     }
 }
 
-// The marks, and how many levels come after the first.
+// The marks, and how many levels come after the first, which is level 0: the number of the last.
 pub struct Traversed {
     pub marks: [bool; MOST_NODES],
     pub levels: usize,
 }
 
-// All that is reached from the first level, which alone is met: at most 32 levels, left at the first that adds nothing.
+// All that is reached from the first level, which alone is met: one pass for each level after it, and one more that adds nothing; at most 32.
 fn spread(t: Table, mem: &[u8], clock: u64, first: [bool; MOST_NODES]) -> Traversed
     requires { ⌜ Readable clock t (now mem) ⌝ }
     ensures { λ r. ⌜ Spread clock (view t (now (mem .entry))) first r ⌝ }

@@ -26,14 +26,14 @@ fn sum(s: State, mem: &[u8], v: [u64; 8])
     summed(b"sum ", a.number, a.value, a.unread);
 }
 
-// The reachable nodes and the network digest.
+// The reachable nodes, the last level and the network digest.
 fn marks(s: State, mem: &[u8], v: [u64; 8])
     requires { ⌜ AsLeft s (now mem) ⌝ }
 {
     let a = look::pingvratha_marks(s, mem, v[0]);
     let digest = a.digest;
     let nodes = a.nodes;
-    marked(a.number, a.count, &digest, &nodes);
+    marked(a.number, a.count, a.levels, &digest, &nodes);
 }
 
 // One node's data.

@@ -17,6 +17,7 @@ returns c =
     let k = c .before .before .mark in
     record {
       marks = k .ensures .marks;
+      count = k .ensures .count;
       digest = c .network-digest .ensures (a .mem .now) (c .before .before .before .before .pre .0 .kept) ∙ digest-reached (a .own) (a .clock) (view (a .t) (a .mem .now)) (k .result .marks) (k .ensures .marks);
     }
 
