@@ -4,7 +4,7 @@ use mathlib.Core.Bool.{Bool, true, false, cond}
 use mathlib.Core.List.{List, [], _∷_, _++_, map}
 use Prim.Native.Nat.{ℕ, zero, suc, _+_, _-_, _^_, _<_, _≤_}
 use native.Mathlib.Omega.{arith}
-use lib.IntN.{ℤ, pos, negsuc, _+ℤ_, _-ℤ_, +ℤ-assoc, +ℤ-comm, +ℤ-idl}
+use lib.IntN.{ℤ, pos, negsuc, negℤ, _+ℤ_, _-ℤ_, +ℤ-assoc, +ℤ-comm, +ℤ-idl, +ℤ-invl}
 use lib.Dec.{ltb}
 use lib.Signed.{mag, ltZ}
 use borrow.Author.Tests.{ltb-true, le-ltb, lt-ltb}
@@ -29,10 +29,19 @@ pub sum-append : (xs ys : List ℤ) → sumℤ (xs ++ ys) ≡ sumℤ xs +ℤ sum
 sum-append [] ys = sym (+ℤ-idl (sumℤ ys))
 sum-append (x ∷ xs) ys = rw (sum-append xs ys) (sym (+ℤ-assoc x (sumℤ xs) (sumℤ ys)))
 
+-- a term taken to the front
+pub add-across : (a b c : ℤ) → a +ℤ (b +ℤ c) ≡ b +ℤ (a +ℤ c)
+add-across a b c = sym (+ℤ-assoc a b c) ∙ ap (λ (x : ℤ). x +ℤ c) (+ℤ-comm a b) ∙ +ℤ-assoc b a c
+
+-- a number and its negative cancel, both picked or neither
+pub cancelled : (b : Bool) (x t : ℤ) → cond b (negℤ x) (pos 0) +ℤ (cond b x (pos 0) +ℤ t) ≡ t
+cancelled true x t = sym (+ℤ-assoc (negℤ x) x t) ∙ ap (λ (v : ℤ). v +ℤ t) (+ℤ-invl x) ∙ +ℤ-idl t
+cancelled false x t = +ℤ-idl (pos 0 +ℤ t) ∙ +ℤ-idl t
+
 -- sums over one list of two terms each
 swap : (a b c d : ℤ) → (a +ℤ b) +ℤ (c +ℤ d) ≡ (a +ℤ c) +ℤ (b +ℤ d)
 swap a b c d =
-    +ℤ-assoc a b (c +ℤ d) ∙ ap (λ (x : ℤ). a +ℤ x) (sym (+ℤ-assoc b c d) ∙ ap (λ (x : ℤ). x +ℤ d) (+ℤ-comm b c) ∙ +ℤ-assoc c b d) ∙ sym (+ℤ-assoc a c (b +ℤ d))
+    +ℤ-assoc a b (c +ℤ d) ∙ ap (λ (x : ℤ). a +ℤ x) (add-across b c d) ∙ sym (+ℤ-assoc a c (b +ℤ d))
 
 pub sum-both : {A : Type 0} (f g : A → ℤ) (xs : List A) → sumℤ (map (λ x. f x +ℤ g x) xs) ≡ sumℤ (map f xs) +ℤ sumℤ (map g xs)
 sum-both f g [] = refl

@@ -6,7 +6,7 @@ use mathlib.Core.Option.{Option, none, some}
 use mathlib.Core.Logic.{_⊎_, inl, inr, ⊎-elim}
 use Prim.Native.Nat.{ℕ, suc, _+_, _≤_, _<_, zero-le, suc-le-suc}
 use native.Mathlib.Omega.{arith}
-use lib.ListN.{length}
+use lib.ListN.{length, length-append}
 use lib.Dec.{eqb, ltb}
 use borrow.Author.Tests.{lt-ltb, le-ltb, eq-eqb, ne-eqb, eqb-true, eqb-false}
 use Rattle.base.specs.Lists.{keep, orElse, In, All}
@@ -292,17 +292,25 @@ module _ {A : Type 0} (key : A → ℕ) where
       (by-test (eqb (key x) n) (λ t. find-yes key n x (insert key a xs) (eqb-true (key x) n t) ∙ sym (find-yes key n x xs (eqb-true (key x) n t)))
       (λ t. find-no key n x (insert key a xs) (eqb-false (key x) n t) ∙ find-other n a xs ne ∙ sym (find-no key n x xs (eqb-false (key x) n t)))))
 
-  -- over an element with the same key: as many as before
-  pub over-length : (a b : A) (xs : List A) → Ascending key xs → In b xs → key b ≡ key a → length (insert key a xs) ≡ length xs
-  over-length a b [] h m e = absurd m
-  over-length a b (x ∷ xs) h m e =
+  -- over an element with the same key: what stands before it and behind it stays
+  pub insert-over : (a b : A) (xs : List A) → Ascending key xs → In b xs → key b ≡ key a
+      → (l : List A) × (r : List A) × (xs ≡ l ++ (b ∷ r)) × (insert key a xs ≡ l ++ (a ∷ r))
+  insert-over a b [] h m e = absurd m
+  insert-over a b (x ∷ xs) h m e =
       by-order (key a) (key x) (λ lt. absurd (let l : key a < key b = above-in key (x ∷ xs) b (lt, above-less key xs (omega arith) (h .0)) m in omega arith))
-      (λ eq. rw (insert-eq key a x xs eq))
-      (λ gt. rw (insert-gt key a x xs gt) (ap suc (over-length a b xs (h .1) (tail gt m) e)))
+      (λ eq. ([], xs, ap (λ (y : A). y ∷ xs) (one-each key x b (x ∷ xs) h (inl refl) m (sym eq ∙ sym e)), insert-eq key a x xs eq))
+      (λ gt. let q = insert-over a b xs (h .1) (tail gt m) e in
+      (x ∷ q .0, q .1, ap (λ (l : List A). x ∷ l) (q .2), insert-gt key a x xs gt ∙ ap (λ (l : List A). x ∷ l) (q .3)))
     where
       tail : key x < key a → (b ≡ x) ⊎ In b xs → In b xs
       tail gt (inl q) = let k : key b ≡ key x = ap key q in absurd (omega arith)
       tail gt (inr r) = r
+
+  -- so there are as many as before
+  pub over-length : (a b : A) (xs : List A) → Ascending key xs → In b xs → key b ≡ key a → length (insert key a xs) ≡ length xs
+  over-length a b xs h m e =
+      let q = insert-over a b xs h m e in
+      ap length (q .3) ∙ length-append (q .0) (a ∷ q .1) ∙ sym (length-append (q .0) (b ∷ q .1)) ∙ sym (ap length (q .2))
 
 -- above every key it goes in at the end
 pub insert-last : {A : Type 0} (key : A → ℕ) (a : A) (xs : List A) → All (λ x. key x < key a) xs → insert key a xs ≡ xs ++ (a ∷ [])

@@ -48,6 +48,12 @@ or-no a b e = rw e (sym (or-false a))
 pub and-stop : (a b : Bool) → a ≡ false → false ≡ a && b
 and-stop a b e = rw e
 
+-- two tests that hold together are one
+pub both-ways : (a b : Bool) → (a ≡ true → b ≡ true) → (b ≡ true → a ≡ true) → a ≡ b
+both-ways true b f g = sym (f refl)
+both-ways false true f g = g refl
+both-ways false false f g = refl
+
 -- by cases on a test, and on the order of two numbers
 pub by-test {ℓ} : {X : Type ℓ} (b : Bool) → (b ≡ true → X) → (b ≡ false → X) → X
 by-test true f g = f refl

@@ -9,6 +9,7 @@ use lib.ListN.{length, take}
 use Rattle.base.specs.Lists.{In, joinAll}
 use Rattle.base.specs.Bytes.{big32}
 use Rattle.base.specs.Sorted.{Ascending}
+use Rattle.base.proofs.Sorted.{same-list}
 use Rattle.wire.specs.Row.{typeOf, tlvs}
 use Rattle.wire.proofs.Encoded.{encode-type, encode-whole}
 use Rattle.wire.proofs.Good.{Wholes, tlvs-row}
@@ -63,6 +64,11 @@ reachable own clock t a =
       ascending = levels-are-chains .sorted own clock t a;
       exactly = λ e. (led own clock t e, λ l. levels-are-chains .entries own clock t e .1 (l .0, levels-are-chains .same own clock t (idOf e) .1 (l .1)));
     }
+
+-- there is one such list
+pub one-reachable : (own clock : ℕ) (t es fs : List Entry) → Reachable own clock t es → Reachable own clock t fs → es ≡ fs
+one-reachable own clock t es fs x y =
+    same-list idOf es fs (x .ascending) (y .ascending) (λ e i. y .exactly e .1 (x .exactly e .0 i)) (λ e i. x .exactly e .1 (y .exactly e .0 i))
 
 -- ---- the calls
 

@@ -16,5 +16,6 @@ pub mod Traffic
 pub mod OwnPayments
 pub mod Quiet
 pub mod Levels
+pub mod AddingUp
 pub mod Corollaries
 pub mod Returns

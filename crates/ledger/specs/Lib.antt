@@ -7,3 +7,4 @@ pub mod Returning
 pub mod OwnPayments
 pub mod Quiet
 pub mod Levels
+pub mod AddingUp

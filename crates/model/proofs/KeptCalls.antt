@@ -145,8 +145,8 @@ module _ (clock : ℕ) (p : Payment) (s : State) where
   published-midway m n room =
       let g : good dataLimit (ownData s) ≡ true = midway-own s m .fine in
       publish-kept (advance (ownSeq s) 1) (withTlv (paymentTlv p) (ownData s)) (s .peers) s m (advance-fits (ownSeq s) 1)
-      (paid-good p (ownData s) g n (acceptable room)) (m .peers) (paid-only p (ownData s) g n (acceptable room) 8 (map peerTlv (s .peers)) (omega arith) (m .links)) (s .endpoints) (m .endpoints)
-      (paid-only p (ownData s) g n (acceptable room) 9 (keepAlives 1 (intervalsOf (s .endpoints))) (omega arith) (m .choices))
+      (paid-good p (ownData s) g n (acceptable room)) (m .peers) (paid-only p (ownData s) 8 (map peerTlv (s .peers)) (omega arith) (m .links)) (s .endpoints) (m .endpoints)
+      (paid-only p (ownData s) 9 (keepAlives 1 (intervalsOf (s .endpoints))) (omega arith) (m .choices))
 
 module _ (clock : ℕ) (p : Payment) (rs : List ℕ) (s : State) where
   pub paid-valid : Midway clock s → among (paymentTlv p) (tlvs (ownData s)) ≡ false → length (ownData s) + length (paymentTlv p) ≤ publishLimit → clock ≤ lastReading → Valid (paid clock p rs s)

@@ -189,7 +189,7 @@ module _ (i n : ℕ) (d : List ℕ) where
     with-good =
         by-test (eqb n usualInterval) (λ b. rw (kept-usual (eqb-true n usualInterval b)) without-good)
         (λ b. let ne : ¬ (n ≡ usualInterval) = eqb-false n usualInterval b in
-        rw (kept-other ne) (put-good (keepAliveTlv i n) (withoutKeepAlive i d) without-good (alive-whole i n) none-left (fits ne)))
+        rw (kept-other ne) (put-good (keepAliveTlv i n) (withoutKeepAlive i d) (alive-whole i n) without-good none-left (fits ne)))
 
     -- its TLVs: the new one, and those of d that are not the endpoint's
     pub with-in : (t : List ℕ) → In t (tlvs (withKeepAlive i n d)) → (¬ (n ≡ usualInterval) × (t ≡ keepAliveTlv i n)) ⊎ (In t (tlvs d) × (isKeepAlive i t ≡ false))
@@ -197,7 +197,7 @@ module _ (i n : ℕ) (d : List ℕ) where
         by-test (eqb n usualInterval) (λ b. inr (left (subst (λ (x : List ℕ). In t (tlvs x)) (kept-usual (eqb-true n usualInterval b)) m)))
         (λ b. let ne : ¬ (n ≡ usualInterval) = eqb-false n usualInterval b in
         ⊎-elim (λ q. inl (ne, q)) (λ r. inr (left r)) (place-in (keepAliveTlv i n) t (tlvs (withoutKeepAlive i d))
-        (subst (In t) (ap tlvs (kept-other ne) ∙ put-tlvs (keepAliveTlv i n) (withoutKeepAlive i d) without-good (alive-whole i n) none-left (fits ne)) m)))
+        (subst (In t) (ap tlvs (kept-other ne) ∙ put-tlvs (keepAliveTlv i n) (withoutKeepAlive i d) (alive-whole i n)) m)))
       where
         left : In t (tlvs (withoutKeepAlive i d)) → In t (tlvs d) × (isKeepAlive i t ≡ false)
         left k =
@@ -210,7 +210,7 @@ module _ (i n : ℕ) (d : List ℕ) where
         (λ b. let u : n ≡ usualInterval = eqb-true n usualInterval b in
         subst (λ (x : List ℕ). In t (tlvs x)) (sym (kept-usual u)) (⊎-elim (λ (ne, q). absurd (ne u)) right o))
         (λ b. let ne : ¬ (n ≡ usualInterval) = eqb-false n usualInterval b in
-        subst (In t) (sym (ap tlvs (kept-other ne) ∙ put-tlvs (keepAliveTlv i n) (withoutKeepAlive i d) without-good (alive-whole i n) none-left (fits ne)))
+        subst (In t) (sym (ap tlvs (kept-other ne) ∙ put-tlvs (keepAliveTlv i n) (withoutKeepAlive i d) (alive-whole i n)))
         (in-place (keepAliveTlv i n) t (tlvs (withoutKeepAlive i d)) (⊎-elim (λ (z, q). inl q) (λ r. inr (right r)) o)))
       where
         right : In t (tlvs d) × (isKeepAlive i t ≡ false) → In t (tlvs (withoutKeepAlive i d))

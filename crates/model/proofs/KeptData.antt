@@ -151,14 +151,14 @@ pub tlv-none : (d : List ℕ) → isRow d ≡ true → withTlv [] d ≡ d
 unfolding withTlv
 tlv-none d r = none-placed (tlvs d) ∙ tlvs-joined d r
 
-module _ (t d : List ℕ) (g : good dataLimit d ≡ true) (w : Whole t) (n : among t (tlvs d) ≡ false) (l : length d + length t ≤ dataLimit) where
-  pub put-good : good dataLimit (withTlv t d) ≡ true
+module _ (t d : List ℕ) (w : Whole t) where
+  pub put-good : good dataLimit d ≡ true → among t (tlvs d) ≡ false → length d + length t ≤ dataLimit → good dataLimit (withTlv t d) ≡ true
   unfolding withTlv
-  put-good = place-good dataLimit d t g w n l
+  put-good g n l = place-good dataLimit d t g w n l
 
   pub put-tlvs : tlvs (withTlv t d) ≡ place t (tlvs d)
   unfolding withTlv
-  put-tlvs = place-tlvs dataLimit d t g w n l
+  put-tlvs = place-tlvs t d w
 
   -- of another type
   pub put-other : (y : ℕ) (ts : List (List ℕ)) → Only y d ts → ¬ (typeOf t ≡ y) → Only y (withTlv t d) ts
@@ -192,13 +192,13 @@ module _ (p : Peer) (d : List ℕ) (ps : List Peer) (k : Linked d ps) (u : known
     fits = omega (arith, peer-length p)
 
     pub peer-good : good dataLimit (withTlv (peerTlv p) d) ≡ true
-    peer-good = put-good (peerTlv p) d g (peer-whole p) peer-new fits
+    peer-good = put-good (peerTlv p) d (peer-whole p) g peer-new fits
 
     pub peer-chosen : (es : List Endpoint) → Chosen d es → Chosen (withTlv (peerTlv p) d) es
-    peer-chosen es h = put-other (peerTlv p) d g (peer-whole p) peer-new fits 9 (keepAlives 1 (intervalsOf es)) h (λ e. omega (arith, peer-type p))
+    peer-chosen es h = put-other (peerTlv p) d (peer-whole p) 9 (keepAlives 1 (intervalsOf es)) h (λ e. omega (arith, peer-type p))
 
     pub peer-linked : Linked (withTlv (peerTlv p) d) (ps ++ (p ∷ []))
-    peer-linked t = rw (put-tlvs (peerTlv p) d g (peer-whole p) peer-new fits, map-append peerTlv ps (p ∷ [])) (into, back)
+    peer-linked t = rw (put-tlvs (peerTlv p) d (peer-whole p), map-append peerTlv ps (p ∷ [])) (into, back)
       where
         into : In t (place (peerTlv p) (tlvs d)) × (typeOf t ≡ 8) → In t (map peerTlv ps ++ (peerTlv p ∷ []))
         into (m, e) =
@@ -293,9 +293,9 @@ empty-only y t = rw (tlvs-end [] refl) (λ r. r .0, λ m. absurd m)
 
 -- ---- a payment put in
 
-module _ (p : Payment) (d : List ℕ) (g : good dataLimit d ≡ true) (n : among (paymentTlv p) (tlvs d) ≡ false) (l : length d + length (paymentTlv p) ≤ dataLimit) where
-  pub paid-good : good dataLimit (withTlv (paymentTlv p) d) ≡ true
-  paid-good = put-good (paymentTlv p) d g (payment-whole p) n l
+module _ (p : Payment) (d : List ℕ) where
+  pub paid-good : good dataLimit d ≡ true → among (paymentTlv p) (tlvs d) ≡ false → length d + length (paymentTlv p) ≤ dataLimit → good dataLimit (withTlv (paymentTlv p) d) ≡ true
+  paid-good g n l = put-good (paymentTlv p) d (payment-whole p) g n l
 
   pub paid-only : (y : ℕ) (ts : List (List ℕ)) → ¬ (40 ≡ y) → Only y d ts → Only y (withTlv (paymentTlv p) d) ts
-  paid-only y ts ne k = put-other (paymentTlv p) d g (payment-whole p) n l y ts k (λ e. ne (sym (payment-type p) ∙ e))
+  paid-only y ts ne k = put-other (paymentTlv p) d (payment-whole p) y ts k (λ e. ne (sym (payment-type p) ∙ e))

@@ -99,7 +99,7 @@ module _ {clock : ℕ} (s : State) (m : Midway clock s) where
   unfolding ownEntry
   midway-held = found (look (s .own) (s .table)) (m .table .held)
 
-  own-in : In (ownEntry s) (s .table) × (idOf (ownEntry s) ≡ s .own)
+  pub own-in : In (ownEntry s) (s .table) × (idOf (ownEntry s) ≡ s .own)
   unfolding look
   own-in = find-some idOf (s .own) (ownEntry s) (s .table) midway-held
 

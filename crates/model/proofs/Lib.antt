@@ -28,6 +28,9 @@ pub mod Sendings
 pub mod Marked
 pub mod Levels
 pub mod Shortest
+pub mod Seen
+pub mod Groups
+pub mod Amounts
 pub mod Turns
 pub mod Refusals
 pub mod ReadBack

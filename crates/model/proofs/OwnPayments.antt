@@ -21,7 +21,7 @@ use Rattle.wire.specs.Order.{good, place}
 use Rattle.wire.specs.Payment.{Payment, paymentTlv}
 use Rattle.wire.proofs.Ordering.{same-is}
 use Rattle.wire.proofs.Rows.{tlvs-end}
-use Rattle.wire.proofs.Good.{Whole, place-whole, place-in, in-place, keep-place, keep-tlvs, tlvs-row, wholes-always}
+use Rattle.wire.proofs.Good.{Whole, place-in, in-place, keep-place, keep-tlvs}
 use Rattle.wire.proofs.Encoded.{payment-whole, payment-type}
 use Rattle.model.specs.Figures.{mostNodes, dataLimit, refreshAge, usualInterval, reclaimStep}
 use Rattle.model.specs.Sequence.{advance}
@@ -41,7 +41,7 @@ use Rattle.model.specs.Refusals.{late, back, smallTable}
 use Rattle.model.specs.Invariant.{Valid}
 use Rattle.model.specs.Theorems.{ownPayments, OwnPaymentsStay}
 use Rattle.model.proofs.KeptParts.{none-applies, not-back, valid-midway, look-put, look-other, published-own}
-use Rattle.model.proofs.KeptData.{peer-whole, peer-type}
+use Rattle.model.proofs.KeptData.{put-tlvs, peer-whole, peer-type}
 use Rattle.model.proofs.KeptChoice.{alive-whole, alive-type, alive-nine}
 use Rattle.model.proofs.KeptSteps.{Steps, senderIn, receive-holds}
 use Rattle.model.proofs.KeptCalls.{reached-held}
@@ -53,8 +53,7 @@ no-payment : (t : List ℕ) {y : ℕ} → ¬ (y ≡ 40) → typeOf t ≡ y → i
 no-payment t n e = ne-eqb (typeOf t) 40 (λ q. n (sym e ∙ q))
 
 payments-with : (t d : List ℕ) → Whole t → isPayment t ≡ false → paymentsOf (withTlv t d) ≡ paymentsOf d
-unfolding withTlv
-payments-with t d w n = rw (tlvs-row (place t (tlvs d)) (place-whole t (tlvs d) w (wholes-always d))) (keep-place t isPayment (tlvs d) n)
+payments-with t d w n = rw (put-tlvs t d w) (keep-place t isPayment (tlvs d) n)
 
 -- a test that every payment meets keeps the payments
 payments-kept : (f : List ℕ → Bool) (ts : List (List ℕ)) → ((t : List ℕ) → isPayment t ≡ true → f t ≡ true) → keep isPayment (keep f ts) ≡ keep isPayment ts
@@ -193,8 +192,7 @@ purges clock rs table s v =
     (λ b. refl)
 
 joined : (p : Payment) (d t : List ℕ) → In t (paymentsOf (withTlv (paymentTlv p) d)) ↔ (In t (paymentsOf d) ⊎ (t ≡ paymentTlv p))
-unfolding withTlv
-joined p d t = rw (tlvs-row (place (paymentTlv p) (tlvs d)) (place-whole (paymentTlv p) (tlvs d) (payment-whole p) (wholes-always d))) (into, back)
+joined p d t = rw (put-tlvs (paymentTlv p) d (payment-whole p)) (into, back)
   where
     into : In t (keep isPayment (place (paymentTlv p) (tlvs d))) → In t (paymentsOf d) ⊎ (t ≡ paymentTlv p)
     into m =

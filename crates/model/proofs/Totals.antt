@@ -168,6 +168,14 @@ pub sum-is : (ss : List Statement) → sumOf ss ≡ tally anyPayment (paymentsIn
 unfolding sumOf tally
 sum-is ss = rw (keep-every anyPayment (readable (paymentsIn ss)) (λ p m. refl))
 
+-- one payment that can be written: its amount, if it is picked
+pub tally-one : (f : Payment → Bool) (p : Payment) → Payable p → tally f (paymentTlv p ∷ []) ≡ cond (f p) (p .amount) (pos 0)
+tally-one f p k =
+    let r : readPayment (valueOf (paymentTlv p)) ≡ some p = payment-read p k in
+    by-test (f p)
+    (λ b. rw b (tally-pick f (paymentTlv p) [] p r b ∙ rw (tally-none f) (+ℤ-idr (p .amount))))
+    (λ b. rw b (tally-pass f (paymentTlv p) [] p r b ∙ tally-none f))
+
 -- a node that publishes one payment and no more: that amount is its household's total, and nothing is another's
 module _ (p : Payment) (k : Payable p) (s : Statement) (e : s .nodeData ≡ paymentTlv p) where
   single-tlv : tlvs (s .nodeData) ≡ paymentTlv p ∷ []
@@ -179,13 +187,7 @@ module _ (p : Payment) (k : Payable p) (s : Statement) (e : s .nodeData ≡ paym
   single-payment = rw (single-tlv, eq-eqb (typeOf (paymentTlv p)) 40 (payment-type p))
 
   pub total-single : (h : ℕ) → totalOf h (s ∷ []) ≡ cond (ofHousehold h p) (p .amount) (pos 0)
-  total-single h =
-      let r : readPayment (valueOf (paymentTlv p)) ≡ some p = payment-read p k in
-      let f : Payment → Bool = ofHousehold h in
-      rw (total-is h (s ∷ []), single-payment)
-      (by-test (ofHousehold h p)
-      (λ b. rw b (tally-pick f (paymentTlv p) [] p r b ∙ rw (tally-none f) (+ℤ-idr (p .amount))))
-      (λ b. rw b (tally-pass f (paymentTlv p) [] p r b ∙ tally-none f)))
+  total-single h = rw (total-is h (s ∷ []), single-payment) (tally-one (ofHousehold h) p k)
 
 -- ---- a loop over the TLVs of node data d, now at place at: it has summed a and counted n unreadable ones, and will end with v and u; at most
 -- k TLVs came before d, and each that was passed in d has four bytes at least

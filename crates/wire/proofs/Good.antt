@@ -224,17 +224,13 @@ pub good-made : (limit : ℕ) (ts : List (List ℕ)) → Wholes ts → ascending
 unfolding good
 good-made limit ts w a l = and-both _ _ (le-leb (length (joinAll ts)) limit l) (rw (row-joined ts w) a)
 
--- data that gains a TLV in its place is good data, and has it among its TLVs
+-- data that gains a TLV in its place is good data
 module _ (limit : ℕ) (d t : List ℕ) (g : good limit d ≡ true) (w : Whole t) (n : among t (tlvs d) ≡ false) (l : length d + length t ≤ limit) where
   pub place-good : good limit (joinAll (place t (tlvs d))) ≡ true
   place-good =
       let r : isRow d ≡ true = good-row limit d g in
       let q : length (joinAll (tlvs d)) ≡ length d = ap length (tlvs-joined d r) in
       good-made limit (place t (tlvs d)) (place-whole t (tlvs d) w (tlvs-whole d r)) (place-ascending t (tlvs d) (good-rises limit d g) n) (omega (arith, place-length t (tlvs d)))
-
-  pub place-tlvs : tlvs (joinAll (place t (tlvs d))) ≡ place t (tlvs d)
-  unfolding tlvs
-  place-tlvs = rw (row-joined (place t (tlvs d)) (place-whole t (tlvs d) w (tlvs-whole d (good-row limit d g))))
 
 -- ---- the loop that looks for the place
 
@@ -443,6 +439,9 @@ no-tlvs s r = none-found (row s) r
 -- whatever the bytes
 pub wholes-always : (s : List ℕ) → Wholes (tlvs s)
 wholes-always s = by-test (isRow s) (tlvs-whole s) (λ r. rw (no-tlvs s r) tt)
+
+pub place-tlvs : (t d : List ℕ) → Whole t → tlvs (joinAll (place t (tlvs d))) ≡ place t (tlvs d)
+place-tlvs t d w = tlvs-row (place t (tlvs d)) (place-whole t (tlvs d) w (wholes-always d))
 
 pub keep-tlvs : (f : List ℕ → Bool) (d : List ℕ) → tlvs (joinAll (keep f (tlvs d))) ≡ keep f (tlvs d)
 keep-tlvs f d = tlvs-row (keep f (tlvs d)) (keep-whole f (tlvs d) (wholes-always d))
