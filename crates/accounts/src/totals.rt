@@ -13,14 +13,14 @@ use wire::payment::{Paid, read_payment};
 use wire::row::tlv_at;
 
 // Whose payments are summed: every household's, or one's.
-#[derive(Drop)]
+#[derive(Clone, Copy)]
 pub struct Whose {
     pub all: bool,
     pub household: u32,
 }
 
 // A sum in cents, and how many payments were unreadable.
-#[derive(Drop)]
+#[derive(Clone, Copy)]
 pub struct Total {
     pub value: i64,
     pub unread: u32,

@@ -6,7 +6,7 @@ use base::memory::remove_bytes;
 use libc::STDIN_FILENO;
 
 // A line, where there is one: the bytes of the window from `at` to `stop`. What is read and not yet taken are those from `from` to `end`.
-#[derive(Drop)]
+#[derive(Clone, Copy)]
 pub struct Next {
     pub some: bool,
     pub at: usize,

@@ -17,7 +17,7 @@ use table::{Entry, Found, Table, find, meta_at};
 use wire::order::{is_good, is_same};
 
 // Each case with the numbers it needs; where all is taken, `held` tells a node that stands at the place from a new one that would stand there.
-#[derive(Drop)]
+#[derive(Clone, Copy)]
 pub enum Decision {
     Ignored,
     Ask {

@@ -54,7 +54,7 @@ fn has_other(s: &[u8], own: u32) -> bool
 }
 
 // Whether such a TLV is in the datagram, once that is known.
-#[derive(Drop)]
+#[derive(Clone, Copy)]
 struct Others {
     known: bool,
     found: bool,

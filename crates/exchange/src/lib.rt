@@ -16,7 +16,7 @@ use reply::Progress;
 
 // What a TLV asks for, decided and not carried out yet: our network's state, the state of the node at a place, a request for the sender's network state,
 // the sender as a new peer, its equal digest counted, or what is decided on a Node State.
-#[derive(Drop)]
+#[derive(Clone, Copy)]
 pub enum Act {
     TellNetwork,
     TellNode { place: usize },
@@ -27,7 +27,7 @@ pub enum Act {
 }
 
 // A TLV's step: the progress with its sender noted and marks worked out where the type asks for it, and what is to be carried out.
-#[derive(Drop)]
+#[derive(Clone, Copy)]
 pub struct Step {
     pub progress: Progress,
     pub act: Act,

@@ -3,7 +3,7 @@ use model::figures::MOST_NODES;
 
 // What total and sum answer.
 #[repr(C)]
-#[derive(Drop)]
+#[derive(Clone, Copy)]
 pub struct Summed {
     pub number: u32,
     // Cents.
@@ -14,7 +14,7 @@ pub struct Summed {
 
 // What marks answers.
 #[repr(C)]
-#[derive(Drop)]
+#[derive(Clone, Copy)]
 pub struct Marked {
     pub number: u32,
     pub count: usize,
@@ -29,7 +29,7 @@ pub struct Marked {
 
 // What save answers.
 #[repr(C)]
-#[derive(Drop)]
+#[derive(Clone, Copy)]
 pub struct Saved {
     pub number: u32,
     // Bytes of the snapshot, at the front of what was lent for it.
@@ -38,7 +38,7 @@ pub struct Saved {
 
 // What show answers: a part of the table memory.
 #[repr(C)]
-#[derive(Drop)]
+#[derive(Clone, Copy)]
 pub struct Extent {
     pub start: usize,
     pub length: usize,

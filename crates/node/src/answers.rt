@@ -4,7 +4,7 @@ use crate::State;
 
 // What begin, resume, pay and purge answer.
 #[repr(C)]
-#[derive(Drop)]
+#[derive(Clone, Copy)]
 pub struct Done {
     pub number: u32,
     pub state: State,
@@ -12,7 +12,7 @@ pub struct Done {
 
 // What tick answers.
 #[repr(C)]
-#[derive(Drop)]
+#[derive(Clone, Copy)]
 pub struct Sent {
     pub number: u32,
     pub state: State,
@@ -22,7 +22,7 @@ pub struct Sent {
 
 // What receive answers.
 #[repr(C)]
-#[derive(Drop)]
+#[derive(Clone, Copy)]
 pub struct Answer {
     pub number: u32,
     pub state: State,

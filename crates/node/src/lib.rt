@@ -13,7 +13,7 @@ use trickle::Trickle;
 
 // One of our endpoints.
 #[repr(C)]
-#[derive(Drop)]
+#[derive(Clone, Copy)]
 pub struct Endpoint {
     pub trickle: Trickle,
     // The reading from which network state may be requested again.
@@ -26,7 +26,7 @@ pub struct Endpoint {
 
 // The state that a call gets and leaves. A host keeps it and need not look into it; node data stand in the lent table memory.
 #[repr(C)]
-#[derive(Drop)]
+#[derive(Clone, Copy)]
 pub struct State {
     // Our identifier.
     pub own: u32,

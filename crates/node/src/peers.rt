@@ -9,7 +9,7 @@ use model::figures::MOST_PEERS;
 
 // A peer: a node on a link of ours.
 #[repr(C)]
-#[derive(Drop)]
+#[derive(Clone, Copy)]
 pub struct Peer {
     pub node: u32,
     // Its endpoint.
@@ -22,7 +22,7 @@ pub struct Peer {
 
 // The peers, in the order in which they came: the first count of the list.
 #[repr(C)]
-#[derive(Drop)]
+#[derive(Clone, Copy)]
 pub struct Peers {
     pub count: usize,
     pub list: [Peer; MOST_PEERS],

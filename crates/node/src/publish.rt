@@ -15,7 +15,7 @@ use table::{Found, Table, data_of, find, insert_tlv, meta_at, publish_slot, remo
 use wire::order::place_of;
 
 // `size` bytes of our data, from `start` on.
-#[derive(Drop)]
+#[derive(Clone, Copy)]
 pub struct Span {
     pub start: usize,
     pub size: usize,

@@ -16,7 +16,7 @@ use table::Table;
 
 // Marks for the places of the table, the number of the last level, and the network digest.
 #[repr(C)]
-#[derive(Drop)]
+#[derive(Clone, Copy)]
 pub struct Reached {
     pub marks: [bool; MOST_NODES],
     pub levels: usize,

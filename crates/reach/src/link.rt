@@ -9,7 +9,7 @@ use base::big_endian::read_u32;
 use wire::row::{Header, tlv_at};
 
 // A Peer TLV's peer, the peer's endpoint and the publisher's own.
-#[derive(Drop)]
+#[derive(Clone, Copy)]
 pub struct Link {
     pub peer: u32,
     pub peerend: u32,

@@ -6,7 +6,7 @@ use model::figures::MOST_NODES;
 use table::{Table, meta_at};
 
 // Identifiers of nodes: the first `count`.
-#[derive(Drop)]
+#[derive(Clone, Copy)]
 pub struct Nodes {
     pub count: usize,
     pub list: [u32; MOST_NODES],

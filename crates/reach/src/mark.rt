@@ -85,7 +85,7 @@ fn either(x: [bool; MOST_NODES], y: [bool; MOST_NODES]) -> [bool; MOST_NODES]
 }
 
 // The nodes met so far, and the last level of them.
-#[derive(Drop)]
+#[derive(Clone, Copy)]
 pub struct Wave {
     pub met: [bool; MOST_NODES],
     pub level: [bool; MOST_NODES],
@@ -104,7 +104,7 @@ fn onward(w: Wave, next: [bool; MOST_NODES]) -> Wave
 }
 
 // The marks, and how many levels come after the first, which is level 0: the number of the last.
-#[derive(Drop)]
+#[derive(Clone, Copy)]
 pub struct Traversed {
     pub marks: [bool; MOST_NODES],
     pub levels: usize,

@@ -6,7 +6,7 @@ use node::Endpoint;
 use reach::Reached;
 
 // What holds for every TLV of a call; `random`: the call's random number for this endpoint; `others`: a Node State about another node is in the datagram.
-#[derive(Drop)]
+#[derive(Clone, Copy)]
 pub struct Context {
     pub own: u32,
     pub clock: u64,
@@ -17,7 +17,7 @@ pub struct Context {
 }
 
 // The sender: the latest Node Endpoint TLV; `known` once there was one.
-#[derive(Drop)]
+#[derive(Clone, Copy)]
 pub struct Sender {
     pub known: bool,
     pub node: u32,
@@ -26,7 +26,7 @@ pub struct Sender {
 
 // What a call keeps beside table and peers: the endpoint it is on, the sender; whether our Node Endpoint TLV stands in front of the replies, the bytes
 // written, replies omitted and TLVs dropped; marks and digest while `fresh` is set.
-#[derive(Drop)]
+#[derive(Clone, Copy)]
 pub struct Progress {
     pub local: Endpoint,
     pub sender: Sender,

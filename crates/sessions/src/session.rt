@@ -25,7 +25,7 @@ const PRINTING: usize = 9;
 const STATE: usize = 13;
 
 // `saved` bytes are those of the last accepted save.
-#[derive(Drop)]
+#[derive(Clone, Copy)]
 pub struct Session {
     pub state: State,
     pub table: usize,

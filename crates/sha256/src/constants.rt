@@ -6,7 +6,7 @@ ghost use Rattle.sha256.specs.Rounds.{constants_of};
 use crate::State;
 
 // The constants of sixteen rounds.
-#[derive(Drop)]
+#[derive(Clone, Copy)]
 pub struct Constants {
     pub k0: u32,
     pub k1: u32,

@@ -15,7 +15,7 @@ use crate::output::{output, output16};
 use crate::parse::load;
 
 // The eight working variables, or the eight words of the hash value.
-#[derive(Drop)]
+#[derive(Clone, Copy)]
 pub struct State {
     pub a: u32,
     pub b: u32,

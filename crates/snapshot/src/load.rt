@@ -12,7 +12,7 @@ use sha256::hash16;
 use table::Table;
 
 // What was loaded, if `ok` is set: our identifier and the table.
-#[derive(Drop)]
+#[derive(Clone, Copy)]
 pub struct Loaded {
     pub ok: bool,
     pub own: u32,

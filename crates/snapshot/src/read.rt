@@ -13,7 +13,7 @@ const MOST_SIZE: u64 = DATA_LIMIT as u64;
 const MOST_ENTRIES: u64 = MOST_NODES as u64;
 
 // The numbers before an entry's data, and the place after them.
-#[derive(Drop)]
+#[derive(Clone, Copy)]
 pub enum NumbersRead {
     Numbers {
         node: u32,
@@ -25,7 +25,7 @@ pub enum NumbersRead {
 }
 
 // One entry: its numbers, and where its data stand.
-#[derive(Drop)]
+#[derive(Clone, Copy)]
 pub enum EntryRead {
     Whole {
         node: u32,
@@ -38,7 +38,7 @@ pub enum EntryRead {
 }
 
 // The numbers before the entries, and where the entries start.
-#[derive(Drop)]
+#[derive(Clone, Copy)]
 pub enum HeadRead {
     Head { own: u32, count: usize, next: usize },
     NoHead,

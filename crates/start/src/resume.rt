@@ -15,7 +15,7 @@ use node::publish::{own_data, own_seq, publish_cut};
 use snapshot::load::load;
 
 // What resuming answers: whether the snapshot was taken, and the state, else as it was.
-#[derive(Drop)]
+#[derive(Clone, Copy)]
 pub struct Resumed {
     pub ok: bool,
     pub state: State,

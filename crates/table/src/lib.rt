@@ -20,7 +20,7 @@ const SLOTS: u16 = MOST_NODES as u16;
 
 // What is held of one node. Its data are the len bytes from slot * DATA_LIMIT on in the table memory.
 #[repr(C)]
-#[derive(Drop)]
+#[derive(Clone, Copy)]
 pub struct Entry {
     pub id: u32,
     // The sequence number.
@@ -36,14 +36,14 @@ pub struct Entry {
 
 // The nodes held, ascending by identifier: the first count entries.
 #[repr(C)]
-#[derive(Drop)]
+#[derive(Clone, Copy)]
 pub struct Table {
     pub count: usize,
     pub entries: [Entry; MOST_NODES],
 }
 
 // Where a node stands, or where it would.
-#[derive(Drop)]
+#[derive(Clone, Copy)]
 pub enum Found {
     At(usize),
     Missing(usize),

@@ -10,7 +10,7 @@ use wire::order::is_same;
 const LAST: usize = 8;
 
 // All words behind the name as numbers, if they are of their forms.
-#[derive(Drop)]
+#[derive(Clone, Copy)]
 struct Fields {
     ok: bool,
     values: [u64; 8],
@@ -93,7 +93,7 @@ fn read(line: &[u8], forms: &[u8], which: usize) -> Fields {
 }
 
 // What a line says, if it is of a form: the place of its name, the values behind it, and where the bytes of its last word stand.
-#[derive(Drop)]
+#[derive(Clone, Copy)]
 pub struct Line {
     pub ok: bool,
     pub which: usize,

@@ -71,7 +71,7 @@ pub fn put_line(room: &mut [u8], at: usize, name: &[u8], v: i64) -> usize
 }
 
 // A word as a number, if it is of its form.
-#[derive(Drop)]
+#[derive(Clone, Copy)]
 pub struct Value {
     pub ok: bool,
     pub number: u64,

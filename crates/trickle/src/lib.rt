@@ -8,7 +8,7 @@ use model::figures::{GREATEST_INTERVAL, LEAST_INTERVAL, MOST_COUNT, REDUNDANCY};
 
 // When an endpoint sends: at start + point, unless an equal digest was heard since start.
 #[repr(C)]
-#[derive(Drop)]
+#[derive(Clone, Copy)]
 pub struct Trickle {
     // The reading at which the interval began.
     pub start: u64,
@@ -21,7 +21,7 @@ pub struct Trickle {
 }
 
 // What a tick brings: whether to send, and the state after it.
-#[derive(Drop)]
+#[derive(Clone, Copy)]
 pub struct Event {
     pub sends: bool,
     pub next: Trickle,

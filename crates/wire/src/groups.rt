@@ -5,7 +5,7 @@ ghost use Rattle.wire.specs.Groups.{groups, read_groups};
 ghost use Rattle.wire.specs.Answers.{as_read, Inside};
 
 // A number that was read, and the place after it.
-#[derive(Drop)]
+#[derive(Clone, Copy)]
 pub enum Groups {
     Value { number: u64, next: usize },
     Bad,

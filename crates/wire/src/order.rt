@@ -85,7 +85,7 @@ pub fn place_of(nd: &[u8], tlv: &[u8]) -> usize
 }
 
 // Where this very TLV stands in node data.
-#[derive(Drop)]
+#[derive(Clone, Copy)]
 pub enum Standing {
     At(usize),
     Nowhere,

@@ -31,7 +31,7 @@ pub fn unfold(u: u32) -> i32
 }
 
 // What a payment value says.
-#[derive(Drop)]
+#[derive(Clone, Copy)]
 pub enum Paid {
     Readable {
         household: u32,

@@ -73,7 +73,7 @@ pub fn is_row(s: &[u8]) -> bool
 }
 
 // One TLV of a row: its value is the len bytes from start on, and the next TLV starts at next.
-#[derive(Drop)]
+#[derive(Clone, Copy)]
 pub struct Header {
     pub kind: u16,
     pub len: usize,
