@@ -1,3 +1,5 @@
 // Payments: ours published, everybody's summed.
+#![tactic(auto)]
+
 pub mod pay;
 pub mod totals;

@@ -1,4 +1,6 @@
 // One received Node State's decision: ignored, ask, take the number only, take all, dropped.
+#![tactic(auto)]
+
 ghost use Rattle.std.specs.Prelude.{◌≡◌, ◌&&◌, List, ℕ, ◌≤◌, length};
 ghost use Rattle.base.specs.Bytes.{same};
 ghost use Rattle.base.specs.Lists.{is_some};

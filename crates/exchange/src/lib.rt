@@ -1,4 +1,6 @@
 // Datagrams: TLV by TLV, with replies (RFC 7787, 4.4 and 4.5).
+#![tactic(auto)]
+
 pub mod carry;
 pub mod datagram;
 pub mod marks;

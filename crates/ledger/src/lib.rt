@@ -21,6 +21,8 @@
 // other fields, hands back the state that came in, and writes to no buffer. Of an accepted call, the bytes of a buffer beyond what is written stay.
 //
 // Calls on different states may run at the same time. A node is a box, a snapshot its saved book. A node is reachable when a chain of nodes that name each other as peers leads from ours to it.
+#![tactic(auto)]
+
 pub mod answers;
 pub mod blank;
 pub mod change;

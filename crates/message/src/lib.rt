@@ -1,4 +1,6 @@
 // The TLVs that we send, as bytes.
+#![tactic(auto)]
+
 ghost use Rattle.std.specs.Prelude.{◌≡◌, ◌++◌, ◌+◌, ◌≤◌, length};
 ghost use Rattle.base.specs.Bytes.{big16, big32};
 ghost use Rattle.base.specs.Memory.{written};

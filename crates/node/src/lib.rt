@@ -1,4 +1,6 @@
 // The node's state: table, peers and endpoints by value; publishing; what stands last in a call that changes state.
+#![tactic(auto)]
+
 pub mod answers;
 pub mod endpoints;
 pub mod leaving;

@@ -1,4 +1,6 @@
 // Which nodes are reachable, level by level from our own, and the network digest over them (RFC 7787, 4.6 and 4.1.1).
+#![tactic(auto)]
+
 pub mod digest;
 pub mod front;
 pub mod link;

@@ -1,4 +1,6 @@
 // What goes from one TLV to the next, and replies into the lent room.
+#![tactic(auto)]
+
 pub mod put;
 pub mod tell;
 

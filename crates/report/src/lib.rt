@@ -1,4 +1,6 @@
 // The treasurer's report: a saved snapshot's totals as text.
+#![tactic(auto)]
+
 pub mod sums;
 
 ghost use Rattle.std.specs.Prelude.{◌+◌, ◌≤◌, length};

@@ -1,6 +1,8 @@
 // Runs a session script from standard input, and writes what each line prints (reference/README.md, Session scripts).
 // Its file `stdin` has every script of reference/scripts: `blank` first, and before each other one a line that sets the lengths of what is lent as they
 // are at first. Its file `stdout` is what the reference writes for that.
+#![tactic(auto)]
+
 mod book;
 mod changing;
 mod session;

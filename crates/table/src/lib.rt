@@ -1,4 +1,6 @@
 // The node table: metadata by value, sorted by identifier; node data in slots of lent memory.
+#![tactic(auto)]
+
 ghost use Rattle.std.specs.Prelude.{◌≡◌, cond, List, ◌∷◌, [], ℕ, ◌+◌, ◌-◌, ◌*◌, ◌≤◌, ◌<◌, min, length};
 ghost use Rattle.base.specs.Memory.{written, spliced, cut};
 ghost use Rattle.model.specs.Figures.{most_nodes, data_limit, table_bytes, most_age, last_reading};

@@ -1,4 +1,6 @@
 // Reads a saved snapshot on standard input and prints its totals.
+#![tactic(auto)]
+
 use libc::{STDIN_FILENO, STDOUT_FILENO};
 use model::figures::TABLE_BYTES;
 use report::sums::HOUSEHOLDS;

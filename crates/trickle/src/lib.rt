@@ -1,4 +1,6 @@
 // One endpoint's Trickle state by value (RFC 6206, 4.2): each method returns the next state.
+#![tactic(auto)]
+
 ghost use Rattle.std.specs.Prelude.{◌≡◌, ◌*◌, ◌≤◌, min};
 ghost use Rattle.model.specs.Figures.{least_interval, greatest_interval};
 ghost use Rattle.model.specs.Trickle.{fresh, hear, reset, point_due, is_idle, event};

@@ -1,4 +1,6 @@
 // Writes SHA-256 digests in hexadecimal, a line each: of the example messages of FIPS 180-4, then of messages of many lengths.
+#![tactic(auto)]
+
 ghost use Rattle.std.specs.Prelude.{◌≤◌, length};
 
 use libc::STDOUT_FILENO;

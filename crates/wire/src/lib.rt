@@ -1,4 +1,6 @@
 // The wire formats of the ledger: rows of TLVs, good node data, groups of seven bits, payments.
+#![tactic(auto)]
+
 pub mod groups;
 pub mod order;
 pub mod payment;

@@ -1,0 +1,34 @@
+use borrow.Author.Rules.{rules}
+use mathlib.Core.Logic.{⊎_elim}
+use Prim.Native.Nat.{◌-◌}
+use native.Mathlib.Omega.{arith}
+use Rattle.table.specs.View.{view}
+use Rattle.accounts.proofs.Sums.{table-start, meta_good, metas_room, metas_stay, metas_on, metas_end}
+use Rattle.accounts.proofs.totals.tally.Goals as goal
+
+pub loop-i-init : goal.loop-i-init
+loop-i-init c = (omega arith, table-start c.args.w c.args.marks (view c.args.t c.args.mem.now))
+
+pub data_of-requires : goal.data_of-requires
+data_of-requires c = (c.requires.0, search rules)
+
+pub add_data-r-requires : goal.add_data-r-requires
+add_data-r-requires c =
+    (
+      metas_room c.args.t c.args.mem.now c.requires.0 c.args.w c.args.marks c.loop-i.r c.loop-i.i c.loop-i.invariant.1 c.requires.1 c.loop-i-test.true,
+      meta_good c.args.t c.args.mem.now c.requires.0 c.requires.1 c.loop-i.i c.loop-i-test.true c.data_of.result.now c.data_of.ensures.0,
+    )
+
+pub loop-i-preserved : goal.loop-i-preserved
+loop-i-preserved c =
+    (
+      omega arith,
+      ⊎_elim
+          (λ b. metas_on c.args.t c.args.mem.now c.requires.0 c.args.w c.args.marks c.loop-i.r c.loop-i.i c.loop-i.invariant.1 c.if-marks-i.r c.loop-i-test.true b.0.taken b.1.result.now b.1.ensures.0 b.2.result b.2.ensures b.3)
+          (λ b. metas_stay c.args.t c.args.mem.now c.requires.0 c.args.w c.args.marks c.loop-i.r c.loop-i.i c.loop-i.invariant.1 c.if-marks-i.r c.loop-i-test.true b.0.left b.1)
+          c.if-marks-i.branch,
+    )
+
+pub returns : goal.returns
+returns c =
+    metas_end c.args.t c.args.mem.now c.requires.0 c.args.w c.args.marks c.loop-i.r c.loop-i.i c.loop-i.invariant.1 (omega arith)

@@ -1,0 +1,15 @@
+use Rattle.upkeep.proofs.Leaving.{midway-readable}
+use Rattle.ledger.proofs.Sums.{midway-good, summing}
+use Rattle.ledger.proofs.look.summed.Goals as goal
+
+pub reach-found-requires : goal.reach-found-requires
+reach-found-requires c =
+    midway-readable c.args.clock c.args.state c.args.memory.now c.requires.1.0 c.requires.0 c.requires.1.1
+
+pub tally-t-requires : goal.tally-t-requires
+tally-t-requires c =
+    (c.requires.0.table, midway-good c.args.clock c.args.state c.args.memory.now c.requires.1.0)
+
+pub returns : goal.returns
+returns c =
+    summing c.args.clock c.args.state c.args.memory.now c.args.w c.reach-found.result c.reach-found.ensures c.tally-t.result c.tally-t.ensures (record { sfits = c.struct_told-1.given.0.1 })

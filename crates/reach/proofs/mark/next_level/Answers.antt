@@ -1,0 +1,49 @@
+use native.Mathlib.Omega.{arith}
+use Prim.Native.Nat.{◌-◌}
+use mathlib.Core.Path.{sym, ◌∙◌}
+use mathlib.Core.Logic.{⊎_elim}
+use Rattle.table.proofs.Tables.{view-length}
+use Rattle.reach.proofs.Nodes.{few-nodes, held, legible_at, leads_at_lem}
+use Rattle.reach.proofs.Nexts.{tried_none, tried_all, tried_out, tried_in, tried_on, trying_met, trying_unled, trying_led}
+use Rattle.reach.proofs.mark.next_level.Goals as goal
+
+pub loop-r-init : goal.loop-r-init
+loop-r-init c =
+    (omega arith, tried_none _ _ _ _)
+
+pub loop-v-init : goal.loop-v-init
+loop-v-init c =
+    (omega arith, tried_in _ _ _ _ c.loop-r.r (held c.args.t c.args.mem.now c.requires.kept.arranged c.loop-r.r c.loop-r-test.true) _ c.loop-r.invariant.1)
+
+pub is_leading-requires : goal.is_leading-requires
+is_leading-requires c =
+    (legible_at _ _ _ c.requires c.loop-r.r c.loop-r-test.true, legible_at _ _ _ c.requires c.loop-v.v c.loop-v-test.true)
+
+pub loop-v-preserved : goal.loop-v-preserved
+loop-v-preserved c =
+    let p = held c.args.t c.args.mem.now c.requires.kept.arranged c.loop-r.r c.loop-r-test.true in
+    let q = held c.args.t c.args.mem.now c.requires.kept.arranged c.loop-v.v c.loop-v-test.true in
+    let at = leads_at_lem c.args.clock c.args.t c.args.mem.now c.requires c.loop-r.r c.loop-v.v c.loop-r-test.true c.loop-v-test.true in (
+      omega arith,
+      ⊎_elim
+          (λ b. rw b.4
+          (trying_led _ _ _ _ c.loop-r.r p c.if-level-r.true c.loop-v.v q c.loop-v.next c.loop-v.invariant.1 (few-nodes c.args.t c.args.mem.now c.requires.kept.arranged) b.0.taken (sym at ∙ sym b.2.ensures ∙ b.3.taken)))
+          (⊎_elim
+          (λ b. rw b.4 (trying_unled _ _ _ _ c.loop-r.r p c.if-level-r.true c.loop-v.v q c.loop-v.next c.loop-v.invariant.1 (sym at ∙ sym b.2.ensures ∙ b.3.left)))
+          (λ b. rw b.1 (trying_met _ _ _ _ c.loop-r.r p c.if-level-r.true c.loop-v.v q c.loop-v.next c.loop-v.invariant.1 b.0.left)))
+          c.if-not-met-v.branch,
+    )
+
+pub loop-r-preserved : goal.loop-r-preserved
+loop-r-preserved c =
+    let p = held c.args.t c.args.mem.now c.requires.kept.arranged c.loop-r.r c.loop-r-test.true in (
+      omega arith,
+      ⊎_elim
+          (λ b. rw b.4 (tried_on _ _ _ _ c.loop-r.r p b.2.v b.2.next b.2.inv.1 (omega (arith, b.3.left, view-length c.args.t c.requires.kept.arranged c.args.mem.now))))
+          (λ b. rw b.1 (tried_out _ _ _ _ c.loop-r.r p c.loop-r.next c.loop-r.invariant.1 b.0.left))
+          c.if-level-r.branch,
+    )
+
+pub returns : goal.returns
+returns c =
+    tried_all _ _ _ _ c.loop-r.r _ c.loop-r.invariant.1 (omega (arith, c.loop-r-test.false, view-length c.args.t c.requires.kept.arranged c.args.mem.now))

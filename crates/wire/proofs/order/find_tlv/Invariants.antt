@@ -1,0 +1,17 @@
+use Prim.Native.Nat.{◌+◌, ◌-◌, ◌≤◌}
+use mathlib.Core.Path.{◌≡◌}
+use mathlib.Core.List.{◌++◌}
+use Rattle.base.specs.Lists.{join_all}
+use mathlib.Core.Bool.{true}
+use lib.ListN.{length, drop, take}
+use Rattle.wire.specs.Row.{is_row, tlvs}
+use Rattle.wire.specs.Order.{among, ascending, without}
+use Rattle.wire.proofs.order.find_tlv.Given as goal
+
+abbrev pub invariant-loop-at : goal.invariant-loop-at
+invariant-loop-at l =
+    (l.at ≤ length l.nd) × (is_row (drop l.at l.nd) ≡ true) × (among l.tlv (tlvs l.nd) ≡ among l.tlv (tlvs (drop l.at l.nd)))
+    × (ascending (tlvs (drop l.at l.nd)) ≡ true) × (join_all (without l.tlv (tlvs l.nd)) ≡ take l.at l.nd ++ join_all (without l.tlv (tlvs (drop l.at l.nd))))
+
+abbrev pub decreases-loop-at : goal.decreases-loop-at
+decreases-loop-at l = length l.nd - l.at
