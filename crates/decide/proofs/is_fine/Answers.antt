@@ -1,3 +1,4 @@
+use mathlib.Core.Bool.{not}
 use Rattle.decide.proofs.Cases.{fine-not, fine_if}
 use mathlib.Core.Path.{ap}
 use Rattle.decide.proofs.is_fine.Goals as goal

@@ -1,3 +1,4 @@
+use mathlib.Core.Bool.{not}
 use Rattle.exchange.proofs.Carrying.{unknown-not, known-unicast, known-multicast}
 use mathlib.Core.Path.{◌∙◌}
 use Rattle.exchange.specs.Told.{agrees}

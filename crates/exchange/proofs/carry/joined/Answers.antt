@@ -1,3 +1,4 @@
+use mathlib.Core.Bool.{not}
 use mathlib.Core.Path.{sym, ◌∙◌}
 use borrow.Author.Tests.{not-false}
 use Rattle.base.proofs.Tests.{no_not}
@@ -8,7 +9,7 @@ pub returns-then-not-is_greeting : goal.returns-then-not-is_greeting
 returns-then-not-is_greeting c = (c.requires.0, rw (sym c.is_greeting.ensures ∙ no_not c.is_greeting.result (ap not c.if-not-is_greeting.true)))
 
 pub add-requires : goal.add-requires
-add-requires c = (c.requires.0, c.requires.1 (sym c.is_greeting.ensures ∙ not-false c.is_greeting.result (ap not c.if-not-is_greeting.false)))
+add-requires c = (c.requires.0, c.requires.1 (sym c.is_greeting.ensures ∙ c.if-not-is_greeting.false))
 
 pub returns : goal.returns
-returns c = (c.add.ensures.0, rw (sym c.is_greeting.ensures ∙ not-false c.is_greeting.result (ap not c.if-not-is_greeting.false)) c.add.ensures.1)
+returns c = (c.add.ensures.0, rw (sym c.is_greeting.ensures ∙ c.if-not-is_greeting.false) c.add.ensures.1)

@@ -1,3 +1,4 @@
+use mathlib.Core.Bool.{not}
 use Rattle.exchange.proofs.Carrying.{met-not, met_so}
 use mathlib.Core.Path.{ap}
 use Rattle.exchange.proofs.carry.met.Goals as goal

@@ -1,9 +1,7 @@
 -- `load` meets its contract: nothing is written before the whole is judged. Assumes nothing.
 -- the numbers before the entries, once they are read
-use borrow.Author.Tests.{not-true, not-false}
 use Rattle.snapshot.specs.Answers.{Heads}
 use Rattle.snapshot.proofs.Loading.{head_told, no_head, refused, judged_no, judged_yes, loaded}
-use mathlib.Core.Path.{ap}
 use Rattle.snapshot.proofs.load.load.Goals as goal
 
 head-got : (c : tie.After-head) → Heads c.before.before.before.before.before.args.s.now c.head.given.0.0 c.head.given.0.1.0 c.head.given.0.1.1.0
@@ -21,7 +19,7 @@ is_whole-requires c = ((head-got c).within, (head-got c).few)
 pub returns-then-not-is_whole : goal.returns-then-not-is_whole
 returns-then-not-is_whole c =
     refused c.args.clock c.args.s.now c.args.mem.now 0 c.empty-then-not-is_whole.result
-    (judged_no c.args.clock c.args.s.now c.in-Head.own c.in-Head.count c.in-Head.next (head-got c) c.is_whole.result c.is_whole.ensures (not-true c.is_whole.result (ap not c.if-not-is_whole.true)))
+    (judged_no c.args.clock c.args.s.now c.in-Head.own c.in-Head.count c.in-Head.next (head-got c) c.is_whole.result c.is_whole.ensures c.if-not-is_whole.true)
 
 pub fill-requires : goal.fill-requires
 fill-requires c =
@@ -31,11 +29,11 @@ fill-requires c =
         (head-got c).few,
         (
           c.requires,
-          judged_yes c.args.clock c.args.s.now c.in-Head.own c.in-Head.count c.in-Head.next (head-got c) c.is_whole.result c.is_whole.ensures (not-false c.is_whole.result (ap not c.if-not-is_whole.false)),
+          judged_yes c.args.clock c.args.s.now c.in-Head.own c.in-Head.count c.in-Head.next (head-got c) c.is_whole.result c.is_whole.ensures c.if-not-is_whole.false,
         ),
       ),
     )
 
 pub returns : goal.returns
 returns c =
-    loaded c.args.clock c.args.s.now c.in-Head.own c.in-Head.count c.in-Head.next (head-got c) c.is_whole.result c.is_whole.ensures (not-false c.is_whole.result (ap not c.if-not-is_whole.false)) c.args.mem.now c.fill.result c.fill.new.mem c.fill.ensures
+    loaded c.args.clock c.args.s.now c.in-Head.own c.in-Head.count c.in-Head.next (head-got c) c.is_whole.result c.is_whole.ensures c.if-not-is_whole.false c.args.mem.now c.fill.result c.fill.new.mem c.fill.ensures

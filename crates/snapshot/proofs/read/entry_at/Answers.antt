@@ -1,11 +1,9 @@
 -- `entry_at` meets its contract: after the numbers the size and the data. Assumes nothing.
 -- the numbers, and the size, once they are read
-use borrow.Author.Tests.{not-true, not-false}
 use native.Mathlib.Omega.{arith}
 use Rattle.model.specs.Figures.{data_limit}
 use Rattle.snapshot.specs.Numbers.{Numbered}
 use Rattle.snapshot.proofs.Reading.{Got, value, unread, numbers_told, no_numbers, size-unread, data_cut, data_bad, entry-stands}
-use mathlib.Core.Path.{ap}
 use Rattle.snapshot.proofs.read.entry_at.Goals as goal
 
 numbers-got : (c : tie.After-numbers)
@@ -45,9 +43,9 @@ slice_bounds-is_good-end c = omega (arith, (size-got c).within)
 pub returns-then-not-is_good : goal.returns-then-not-is_good
 returns-then-not-is_good c =
     data_bad c.args.s.now c.args.at c.args.low c.in-Numbers.node c.in-Numbers.seq c.in-Numbers.age c.in-Numbers.next (numbers-got c) c.in-Value.number c.in-Value.start (size-got c)
-    c.is_good.result c.is_good.ensures (not-true c.is_good.result (ap not c.if-not-is_good.true))
+    c.is_good.result c.is_good.ensures c.if-not-is_good.true
 
 pub returns : goal.returns
 returns c =
     entry-stands c.args.s.now c.args.at c.args.low c.in-Numbers.node c.in-Numbers.seq c.in-Numbers.age c.in-Numbers.next (numbers-got c) c.in-Value.number c.in-Value.start (size-got c)
-    c.is_good.result c.is_good.ensures (not-false c.is_good.result (ap not c.if-not-is_good.false)) (omega (arith, (size-got c).within))
+    c.is_good.result c.is_good.ensures c.if-not-is_good.false (omega (arith, (size-got c).within))

@@ -1,6 +1,5 @@
 use mathlib.Core.Path.{sym, ap, ◌∙◌}
 use mathlib.Core.Bool.{true}
-use borrow.Author.Tests.{not-true, not-false}
 use native.Mathlib.Omega.{arith}
 use Rattle.model.specs.Trickle.{Trickle as ModelTrickle}
 use Rattle.model.proofs.Cases.{event_busy, event-alive, event_rests}
@@ -18,7 +17,7 @@ tick-requires c =
 
 pub returns-then-not-is_idle : goal.returns-then-not-is_idle
 returns-then-not-is_idle c =
-    c.tick.ensures ∙ sym (event_busy c.args.clock c.args.random (endpoint_of c.args.e) (sym c.is_idle.ensures ∙ not-true _ (ap not c.if-not-is_idle.true)))
+    c.tick.ensures ∙ sym (event_busy c.args.clock c.args.random (endpoint_of c.args.e) (sym c.is_idle.ensures ∙ c.if-not-is_idle.true))
 
 pub overflow_add-e : goal.overflow_add-e
 overflow_add-e c =
@@ -26,7 +25,7 @@ overflow_add-e c =
 
 pub returns-then-clock-e : goal.returns-then-clock-e
 returns-then-clock-e c =
-    sym (event_rests c.args.clock c.args.random (endpoint_of c.args.e) (sym c.is_idle.ensures ∙ not-false _ (ap not c.if-not-is_idle.false)) c.if-clock-e.true)
+    sym (event_rests c.args.clock c.args.random (endpoint_of c.args.e) (sym c.is_idle.ensures ∙ c.if-not-is_idle.false) c.if-clock-e.true)
 
 pub fresh-requires : goal.fresh-requires
 fresh-requires c =
@@ -35,4 +34,4 @@ fresh-requires c =
 pub returns : goal.returns
 returns c =
     ap (λ (t : ModelTrickle). record { sends = true; next = t }) c.fresh.ensures
-    ∙ sym (event-alive c.args.clock c.args.random (endpoint_of c.args.e) (sym c.is_idle.ensures ∙ not-false _ (ap not c.if-not-is_idle.false)) c.if-clock-e.false)
+    ∙ sym (event-alive c.args.clock c.args.random (endpoint_of c.args.e) (sym c.is_idle.ensures ∙ c.if-not-is_idle.false) c.if-clock-e.false)

@@ -3,10 +3,8 @@ use Prim.Native.Nat.{◌-◌}
 use mathlib.Core.Path.{◌≡◌, sym, ◌∙◌}
 use mathlib.Core.Bool.{true, false}
 use lib.ListN.{drop, take, length-drop}
-use borrow.Author.Tests.{not-true, not-false}
 use Rattle.wire.proofs.Rows.{size_none, size-some, size_is}
 use Rattle.wire.proofs.Good.{good-long, good_start, good_end, good_bad, good_on}
-use mathlib.Core.Path.{ap}
 use Rattle.wire.proofs.order.is_good.Goals as goal
 
 pub returns-then-limit-s : goal.returns-then-limit-s
@@ -35,7 +33,7 @@ slice_bounds-is_before-end-in-loop-at c =
 pub returns-then-not-is_before : goal.returns-then-not-is_before
 returns-then-not-is_before c =
     let last = take (c.loop-at.at - c.loop-at.last) (drop c.loop-at.last c.args.s.now) in
-    let f : c.is_before.result ≡ false = not-true c.is_before.result (ap not c.if-not-is_before.true) in
+    let f : c.is_before.result ≡ false = c.if-not-is_before.true in
     sym (c.loop-at.invariant.2 ∙ good_on last c.args.s.now c.loop-at.at c.size_at-n.result c.loop-at-test.true (size_is (drop c.loop-at.at c.args.s.now) c.size_at-n.result c.size_at-n.ensures c.if-n-eq0.false) (size-some (drop c.loop-at.at c.args.s.now) c.size_at-n.result c.size_at-n.ensures c.if-n-eq0.false) c.is_before.result c.is_before.ensures ∙ rw f)
 
 pub loop-at-smaller : goal.loop-at-smaller
@@ -47,7 +45,7 @@ pub loop-at-preserved : goal.loop-at-preserved
 loop-at-preserved c =
     let last = take (c.loop-at.at - c.loop-at.last) (drop c.loop-at.last c.args.s.now) in
     let l = length-drop c.loop-at.at c.args.s.now in
-    let f : c.is_before.result ≡ true = not-false c.is_before.result (ap not c.if-not-is_before.false) in
+    let f : c.is_before.result ≡ true = c.if-not-is_before.false in
     (omega arith, omega (arith, c.size_at-n.ensures.within), c.loop-at.invariant.2 ∙ good_on last c.args.s.now c.loop-at.at c.size_at-n.result c.loop-at-test.true (size_is (drop c.loop-at.at c.args.s.now) c.size_at-n.result c.size_at-n.ensures c.if-n-eq0.false) (size-some (drop c.loop-at.at c.args.s.now) c.size_at-n.result c.size_at-n.ensures c.if-n-eq0.false) c.is_before.result c.is_before.ensures ∙ rw f)
 
 pub returns : goal.returns
