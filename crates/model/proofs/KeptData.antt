@@ -1,6 +1,6 @@
 -- Our own data: Peer TLVs and payments put in, TLVs taken out. It stays good, and its Peer TLVs stay those of the peers. Assumes nothing.
 use Rattle.std.proofs.Common.{◌≡◌, ℕ, ◌+◌, ◌<◌, ◌≤◌, Bool, true, false, not, ◌&&◌, eqb, List, [], ◌∷◌, ◌++◌, map, length, sym, refl, ap, ◌∙◌, subst, inl, inr, ⊎_elim, arith, length-append, eq-eqb, eqb-true}
-use mathlib.Core.List.{map_append}
+use mathlib.Core.List.{map-append}
 use Rattle.base.specs.Lists.{any, keep, join_all, In}
 use Rattle.base.specs.Bytes.{u32_at, big32, same}
 use Rattle.base.proofs.Tests.{no_way, by_test, and_left, and_right, no_not, not_no, or_left, or_right}
@@ -191,7 +191,7 @@ module _ (p : Peer) (d : List ℕ) (ps : List Peer) (k : Linked d ps) (u : known
     peer-chosen es h = put_other (peer_tlv p) d (peer-whole p) 9 (keep_alives 1 (intervals_of es)) h (λ e. omega (arith, peer_type p))
 
     pub peer_linked : Linked (with_tlv (peer_tlv p) d) (ps ++ (p ∷ []))
-    peer_linked t = rw (put-tlvs (peer_tlv p) d (peer-whole p), map_append peer_tlv ps (p ∷ [])) (into, back)
+    peer_linked t = rw (put-tlvs (peer_tlv p) d (peer-whole p), map-append peer_tlv ps (p ∷ [])) (into, back)
       where
         into : In t (place (peer_tlv p) (tlvs d)) × (type_of t ≡ 8) → In t (map peer_tlv ps ++ (peer_tlv p ∷ []))
         into (m, e) =

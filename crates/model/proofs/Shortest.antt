@@ -85,7 +85,7 @@ chain_in (here m e) = m
 chain_in (step c y j m) = m
 
 -- one that goes on begins at a node of ours that is under age
-first-young : {own k : ℕ} {t : List Vertex} {v : Vertex} → Chain own t k v → v.young ≡ true → (w : Vertex) × In w t × (w.says.node ≡ own) × (w.young ≡ true)
+first-young : {own : ℕ} {t : List Vertex} {k : ℕ} {v : Vertex} → Chain own t k v → v.young ≡ true → (w : Vertex) × In w t × (w.says.node ≡ own) × (w.young ≡ true)
 first-young (here {v = w} m e) y = (w, m, e, y)
 first-young (step c z j m) y = first-young c z
 

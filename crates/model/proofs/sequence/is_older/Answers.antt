@@ -10,4 +10,4 @@ wrapped a b r ha hb hr e = ap (leb half) (same a b r ha hb hr e)
     same a b r ha hb hr e = omega arith
 
 pub returns : goal.returns
-returns c = wrapped _ _ _ (omega arith) (omega arith) (omega arith) c.wrapping_sub_u32.ensures
+returns c = wrapped _ _ _ (omega arith) (omega arith) (omega arith) c.wrapping_sub_u32.ensures.value

@@ -20,4 +20,4 @@ returns-in-32 c = ap (λ (t : ℕ). take 16 (drop t k_table)) (sym c.in-32.is)
 
 pub returns-in_default : goal.returns-in_default
 unfolding constants_of k_table
-returns-in_default c = let e : 48 ≡ c.args.t = omega (arith, c.requires, c.in_default.rest) in ap (λ (t : ℕ). take 16 (drop t k_table)) e
+returns-in_default c = let e : 48 ≡ c.args.t = omega arith in ap (λ (t : ℕ). take 16 (drop t k_table)) e
