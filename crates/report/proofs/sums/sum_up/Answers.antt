@@ -20,7 +20,7 @@ data_of-requires c = (c.requires.0, c.loop-i-test.true)
 pub add_data-requires : goal.add_data-requires
 add_data-requires c =
     (
-      record { sums = omega (arith, c.requires.1.1.sums, c.loop-i.invariant.1.0, c.clear.auto.0); marks = omega (arith, c.requires.1.1.marks, c.loop-i.invariant.1.1.0, c.clear.auto.1.0) },
+      record { sums = omega (arith, c.requires.1.1.sums, c.loop-i.invariant.1.0, c.clear.auto.sums); marks = omega (arith, c.requires.1.1.marks, c.loop-i.invariant.1.1.0, c.clear.auto.paid) },
       (
         sums-room c.args.t c.args.mem.now c.requires.0 c.args.marks c.loop-i.sums c.loop-i.paid c.loop-i.i c.loop-i.invariant.1.1.1.0 c.requires.1.0 c.loop-i-test.true,
         meta_good c.args.t c.args.mem.now c.requires.0 c.requires.1.0 c.loop-i.i c.loop-i-test.true c.data_of.result.now c.data_of.ensures.0,
