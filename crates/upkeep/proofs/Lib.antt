@@ -1,7 +1,6 @@
 -- The laws of upkeep.
 pub mod KeepAlive
 pub mod Leaving
-pub mod Shapes
 pub mod Removal
 pub mod Events
 pub mod Choosing

@@ -1,6 +1,5 @@
 use mathlib.Core.Path.{refl, sym, ◌∙◌}
 use mathlib.Core.Bool.{true, false}
-use mathlib.Core.Logic.{⊎_elim}
 use Prim.Native.Nat.{◌+◌, ◌-◌}
 use native.Mathlib.Omega.{arith}
 use lib.Seq.{set-get_or}
@@ -17,6 +16,7 @@ use Rattle.exchange.proofs.Tlvs.{through_start, through_on, through_end}
 use Rattle.exchange.proofs.Passed.{passed-step}
 use Rattle.exchange.proofs.Datagrams.{context_in, call_in, first_ready, carried_on, received}
 use Rattle.exchange.proofs.datagram.handle.Goals as goal
+use Rattle.exchange.proofs.datagram.handle.Goals.{then-is_altering, else-is_altering}
 
 pub loop-at-init : goal.loop-at-init
 loop-at-init c =
@@ -25,7 +25,7 @@ loop-at-init c =
           (rw c.at_start-d.ensures.1
           (first_ready c.args.s c.args.mem.now c.args.room.now c.args.clock c.args.endpoint c.args.unicast c.args.randoms c'.others _ _ (set-get_or c.args.s.endpoints (c.args.endpoint - 1) _) c.requires.0 c.requires.1.0 c.requires.1.1.0 c.requires.1.1.1.0 c.requires.1.1.1.1.0 c.requires.1.1.1.1.1.0))
           c.requires.1.1.1.1.1.1.0,
-      λ e. no_way false c refl,
+      λ e. no_way false e refl,
     )
 
 pub tlv_at-h-requires : goal.tlv_at-h-requires
@@ -84,7 +84,10 @@ loop-at-preserved-then-is_meeting c =
           (bytes-known c.args.datagram.now (λ i. (c.type_inv.datagram i).fits)) c.requires.1.1.1.1.1.1.1 (rw c.at_start-d.ensures.1 refl) (rw c.at_start-d.ensures.1 refl) _
           (c.tlv_at-h.ensures.value ∙ sym (part-is c.args.datagram.now c.tlv_at-h.result.start (c.tlv_at-h.result.start + c.tlv_at-h.result.len) c.tlv_at-h.result.len refl)) c.on_tlv-x.result c.on_tlv-x.ensures
           c.answered-d.result _ c.answered-d.ensures c.if-is_altering.t c.if-is_altering.mem
-          (⊎_elim (λ b. rw (b.6, b.7) b.3.ensures) (λ b. rw (b.1, b.2) (unaltered c'' c.on_tlv-x.result.progress.sender c.on_tlv-x.result.act c.is_altering.result c.is_altering.ensures b.0.left _ c.loop-at.t c.loop-at.mem)) c.if-is_altering.branch)
+          (elim c.if-is_altering.branch [
+              then-is_altering b ↦ rw (b.t-is, b.mem-is) b.altered-t.ensures
+            | else-is_altering b ↦ rw (b.t-is, b.mem-is) (unaltered c'' c.on_tlv-x.result.progress.sender c.on_tlv-x.result.act c.is_altering.result c.is_altering.ensures b.if-is_altering.false (take (c.tlv_at-h.result.start + c.tlv_at-h.result.len - c.tlv_at-h.result.start) (drop c.tlv_at-h.result.start c.args.datagram.now)) c.loop-at.t c.loop-at.mem)
+          ])
           c.met-p.result c.met-p.ensures.0 c.met-p.ensures.1,
       c.looked-o.ensures.0,
     )
@@ -100,7 +103,10 @@ loop-at-preserved c =
           (bytes-known c.args.datagram.now (λ i. (c.type_inv.datagram i).fits)) c.requires.1.1.1.1.1.1.1 (rw c.at_start-d.ensures.1 refl) (rw c.at_start-d.ensures.1 refl) _
           (c.tlv_at-h.ensures.value ∙ sym (part-is c.args.datagram.now c.tlv_at-h.result.start (c.tlv_at-h.result.start + c.tlv_at-h.result.len) c.tlv_at-h.result.len refl)) c.on_tlv-x.result c.on_tlv-x.ensures
           c.answered-d.result _ c.answered-d.ensures c.if-is_altering.t c.if-is_altering.mem
-          (⊎_elim (λ b. rw (b.6, b.7) b.3.ensures) (λ b. rw (b.1, b.2) (unaltered c'' c.on_tlv-x.result.progress.sender c.on_tlv-x.result.act c.is_altering.result c.is_altering.ensures b.0.left _ c.loop-at.t c.loop-at.mem)) c.if-is_altering.branch)
+          (elim c.if-is_altering.branch [
+              then-is_altering b ↦ rw (b.t-is, b.mem-is) b.altered-t.ensures
+            | else-is_altering b ↦ rw (b.t-is, b.mem-is) (unaltered c'' c.on_tlv-x.result.progress.sender c.on_tlv-x.result.act c.is_altering.result c.is_altering.ensures b.if-is_altering.false (take (c.tlv_at-h.result.start + c.tlv_at-h.result.len - c.tlv_at-h.result.start) (drop c.tlv_at-h.result.start c.args.datagram.now)) c.loop-at.t c.loop-at.mem)
+          ])
           c.loop-at.p c.loop-at.invariant.0.ready.sound.rep.peers (unmet c'' c.on_tlv-x.result.progress.sender c.on_tlv-x.result.act c.is_meeting.result c.is_meeting.ensures c.if-is_meeting.false (peers_of c.loop-at.p)),
       c.looked-o.ensures.0,
     )

@@ -1,3 +1,4 @@
+use native.Mathlib.Omega.{arith}
 use mathlib.Core.Path.{refl}
 use Rattle.exchange.proofs.Tlvs.{short-node, short-endpoint, short_network, short-state, other_type, network_asked, node-asked, endpoint-met, network_met, state-met}
 use Rattle.exchange.proofs.tlv.on_tlv.Goals as goal
@@ -55,8 +56,8 @@ returns-else-value-lt28 c =
 
 pub returns-in-32-to-511 : goal.returns-in-32-to-511
 returns-in-32-to-511 c =
-    rw c.still-in-32-to-511.ensures (other_type c.args.c c.args.t c.args.p c.args.d c.args.mem.now c.args.kind c.args.value.now c.in_default-1.rest.0.0.0.0.1 c.in_default-1.rest.0.0.0.1 c.in_default-1.rest.0.0.1 c.in_default-1.rest.0.1 c.in_default-1.rest.1)
+    rw c.still-in-32-to-511.ensures (other_type c.args.c c.args.t c.args.p c.args.d c.args.mem.now c.args.kind c.args.value.now (omega arith) (omega arith) (omega arith) (omega arith) (omega arith))
 
 pub returns-in_default : goal.returns-in_default
 returns-in_default c =
-    rw c.still-in_default.ensures (other_type c.args.c c.args.t c.args.p c.args.d c.args.mem.now c.args.kind c.args.value.now c.in_default-1.rest.0.0.0.0.1 c.in_default-1.rest.0.0.0.1 c.in_default-1.rest.0.0.1 c.in_default-1.rest.0.1 c.in_default-1.rest.1)
+    rw c.still-in_default.ensures (other_type c.args.c c.args.t c.args.p c.args.d c.args.mem.now c.args.kind c.args.value.now (omega arith) (omega arith) (omega arith) (omega arith) (omega arith))

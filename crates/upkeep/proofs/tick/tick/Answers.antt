@@ -1,3 +1,4 @@
+use borrow.Author.Tests.{not-true, not-false}
 use native.Mathlib.Omega.{arith}
 use Prim.Native.Nat.{◌-◌}
 use Rattle.node.proofs.Parts.{pred-is}
@@ -21,7 +22,7 @@ with_endpoint-r-requires c =
 pub returns-then-not-v : goal.returns-then-not-v
 returns-then-not-v c =
     quiet-tick c.args.clock c.args.endpoint c.args.randoms c.args.s c.args.mem.now c.cleared-b.result c.cleared-b.new.mem c.cleared-b.ensures c.endpoint_at-e.result (c.endpoint_at-e.ensures c.cleared-b.new.mem) c.event_of-v.result (c.args.endpoint - 1) (pred-is c.args.endpoint) c.event_of-v.ensures
-    c.after_event.result c.after_event.ensures c.with_endpoint-r.result (c.with_endpoint-r.ensures.0 c.cleared-b.new.mem c.cleared-b.ensures.published.moved.rep) (c.with_endpoint-r.ensures.1 c.cleared-b.new.mem) c.with_endpoint-r.ensures.2 c.args.room.now c.if-not-v.true
+    c.after_event.result c.after_event.ensures c.with_endpoint-r.result (c.with_endpoint-r.ensures.0 c.cleared-b.new.mem c.cleared-b.ensures.published.moved.rep) (c.with_endpoint-r.ensures.1 c.cleared-b.new.mem) c.with_endpoint-r.ensures.2 c.args.room.now (not-true _ c.if-not-v.true)
 
 pub announce-requires : goal.announce-requires
 announce-requires c =
@@ -31,5 +32,5 @@ announce-requires c =
 pub returns : goal.returns
 returns c =
     sent_tick c.args.clock c.args.endpoint c.args.randoms c.args.s c.args.mem.now c.cleared-b.result c.cleared-b.new.mem c.cleared-b.ensures c.endpoint_at-e.result (c.endpoint_at-e.ensures c.cleared-b.new.mem) c.event_of-v.result (c.args.endpoint - 1) (pred-is c.args.endpoint) c.event_of-v.ensures
-    c.after_event.result c.after_event.ensures c.with_endpoint-r.result (c.with_endpoint-r.ensures.0 c.cleared-b.new.mem c.cleared-b.ensures.published.moved.rep) (c.with_endpoint-r.ensures.1 c.cleared-b.new.mem) c.with_endpoint-r.ensures.2 c.args.room.now c.if-not-v.false
+    c.after_event.result c.after_event.ensures c.with_endpoint-r.result (c.with_endpoint-r.ensures.0 c.cleared-b.new.mem c.cleared-b.ensures.published.moved.rep) (c.with_endpoint-r.ensures.1 c.cleared-b.new.mem) c.with_endpoint-r.ensures.2 c.args.room.now (not-false _ c.if-not-v.false)
     c.requires.1.1.1.1.1 c.announce.new.room c.announce.ensures
