@@ -1,3 +1,4 @@
+use borrow.Author.Tests.{not-true, not-false}
 use mathlib.Core.Path.{sym, ◌∙◌}
 use lib.ListN.{length}
 use Rattle.ledger.proofs.Left.{start-accepted}
@@ -16,11 +17,11 @@ resume-r-requires c =
 pub returns-then-not-r : goal.returns-then-not-r
 returns-then-not-r c =
     let e = sym c.of_start-number.ensures ∙ c.if-number-ne0.false in
-    resume-unread c.args.state c.args.memory.now c.requires c.args.clock c.args.randoms.now c.args.snapshot.now e c.resume-r.result c.resume-r.new.mem c.resume-r.ensures c.if-not-r.true
+    resume-unread c.args.state c.args.memory.now c.requires c.args.clock c.args.randoms.now c.args.snapshot.now e c.resume-r.result c.resume-r.new.mem c.resume-r.ensures (not-true _ c.if-not-r.true)
 
 pub returns : goal.returns
 returns c =
     let e = sym c.of_start-number.ensures ∙ c.if-number-ne0.false in
     let f = start-accepted c.args.clock (length c.args.memory.now) e in
     resume_yes c.args.state c.args.memory.now c.requires c.args.clock c.args.randoms.now c.args.snapshot.now e c.resume-r.result c.resume-r.new.mem c.resume-r.ensures
-    c.if-not-r.false f.1
+    (not-false _ c.if-not-r.false) f.1
