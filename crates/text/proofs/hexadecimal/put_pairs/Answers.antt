@@ -1,5 +1,4 @@
 use mathlib.Core.Path.{refl, sym, ◌∙◌}
-use Prim.Native.Nat.{◌-◌}
 use lib.ListN.{length-set}
 use native.Mathlib.Omega.{arith}
 use Rattle.text.proofs.Pairs.{pairs-length, pairs-written, pairs-done}
@@ -9,7 +8,7 @@ pub loop-i-init : goal.loop-i-init
 loop-i-init c = (omega arith, (omega arith, (refl, refl)))
 
 pub glyph-requires : goal.glyph-requires
-glyph-requires c = omega (arith, c.type_inv.d.given c.loop-i.i)
+glyph-requires c = omega (arith, c.type_inv.d c.loop-i.i)
 
 pub bounds-room-e : goal.bounds-room-e
 bounds-room-e c = omega (arith, pairs-length c.args.d.now)

@@ -11,12 +11,12 @@ put_signed-e-requires c =
 
 pub bounds-room-e : goal.bounds-room-e
 bounds-room-e c =
-    cents_end c.args.room.now c.args.at c.args.v c.requires c.put_signed-e.new.room c.put_signed-e.result (rw (narrow_back w64 c.args.v c.ranges.v) at c.put_signed-e.ensures) c.put_signed-e.auto.0
+    cents_end c.args.room.now c.args.at c.args.v c.requires c.put_signed-e.new.room c.put_signed-e.result (rw (narrow_back w64 c.args.v c.ranges.v) at c.put_signed-e.ensures) c.put_signed-e.auto.room
 
 pub overflow_add-result : goal.overflow_add-result
 overflow_add-result c =
-    omega (arith, cents_end c.args.room.now c.args.at c.args.v c.requires c.put_signed-e.new.room c.put_signed-e.result (rw (narrow_back w64 c.args.v c.ranges.v) at c.put_signed-e.ensures) c.put_signed-e.auto.0, c.put_signed-e.auto.0, length-set c.args.room.now c.args.at 32, c.well-formed.0.0)
+    omega (arith, cents_end c.args.room.now c.args.at c.args.v c.requires c.put_signed-e.new.room c.put_signed-e.result (rw (narrow_back w64 c.args.v c.ranges.v) at c.put_signed-e.ensures) c.put_signed-e.auto.room, c.put_signed-e.auto.room, length-set c.args.room.now c.args.at 32, c.well_formed.0.0)
 
 pub returns : goal.returns
 returns c =
-    cents_put c.args.room.now c.args.at c.args.v c.requires c.put_signed-e.new.room c.put_signed-e.result (rw (narrow_back w64 c.args.v c.ranges.v) at c.put_signed-e.ensures) c.put_signed-e.auto.0
+    cents_put c.args.room.now c.args.at c.args.v c.requires c.put_signed-e.new.room c.put_signed-e.result (rw (narrow_back w64 c.args.v c.ranges.v) at c.put_signed-e.ensures) c.put_signed-e.auto.room

@@ -15,7 +15,7 @@ store-requires c =
 pub put_cents-requires : goal.put_cents-requires
 put_cents-requires c =
     rw (narrow_back w64 c.args.v c.ranges.v)
-    (second_fits c.args.name.now (32 ∷ (signed c.args.v ++ (10 ∷ []))) c.args.room.now c.args.at c.requires c.store.new.mem (c.args.at + length c.args.name.now) (record { there = c.store.ensures; next = refl }) c.store.auto.0)
+    (second_fits c.args.name.now (32 ∷ (signed c.args.v ++ (10 ∷ []))) c.args.room.now c.args.at c.requires c.store.new.mem (c.args.at + length c.args.name.now) (record { there = c.store.ensures; next = refl }) c.store.auto.mem)
 
 pub returns : goal.returns
 returns c =
