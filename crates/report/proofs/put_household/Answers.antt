@@ -12,7 +12,7 @@ put_decimal-e-requires c =
 pub put_cents-requires : goal.put_cents-requires
 put_cents-requires c =
     rw (narrow_back w64 c.args.v c.ranges.v)
-    (second_fits (decimal c.args.household) (32 ∷ (signed c.args.v ++ (10 ∷ []))) c.args.room.now c.args.at c.requires c.put_decimal-e.new.room c.put_decimal-e.result c.put_decimal-e.ensures c.put_decimal-e.auto.0)
+    (second_fits (decimal c.args.household) (32 ∷ (signed c.args.v ++ (10 ∷ []))) c.args.room.now c.args.at c.requires c.put_decimal-e.new.room c.put_decimal-e.result c.put_decimal-e.ensures c.put_decimal-e.auto.room)
 
 pub returns : goal.returns
 returns c =

@@ -34,7 +34,7 @@ loop-h-preserved-then-paid-h c =
     let f : SFits w64 (sum_at c.args.sums.now (c.loop-h.h + 1)) = record { sfits = c.put_household-arg-then-paid-h-1.given } in (
       omega (arith, c.loop-h-test.true),
       (
-        c.put_household-e.auto.0 ∙ c.loop-h.invariant.1.0,
+        c.put_household-e.auto.room ∙ c.loop-h.invariant.1.0,
         line-put c.args.sums.now c.args.paid.now c.args.room.now c.args.at c.loop-h.h c.loop-h.room c.loop-h.e c.loop-h.invariant.1.1 c.requires.1 (omega (arith, c.loop-h-test.true)) c.if-paid-h.true c.put_household-e.new.room c.put_household-e.result
             (rw (narrow_back w64 (sum_at c.args.sums.now (c.loop-h.h + 1)) f) at c.put_household-e.ensures),
       ),

@@ -35,9 +35,9 @@ loop-at-preserved c =
       (
         c.tlv_at-h.ensures.again,
         (
-          c.add_tlv.auto.0 ∙ c.loop-at.invariant.1.1.0,
+          c.add_tlv.auto.sums ∙ c.loop-at.invariant.1.1.0,
           (
-            c.add_tlv.auto.1.0 ∙ c.loop-at.invariant.1.1.1.0,
+            c.add_tlv.auto.paid ∙ c.loop-at.invariant.1.1.1.0,
             going_on c.args.nd.now c.args.sums.now c.args.paid.now c.loop-at.sums c.loop-at.paid c.loop-at.at c.loop-at.invariant.1.1.1.1 c.tlv_at-h.result c.tlv_at-h.ensures c.add_tlv.new.sums c.add_tlv.new.paid (rw e at c.add_tlv.ensures),
           ),
         ),
