@@ -52,6 +52,7 @@ interval-small i (inr (inr (inr (inr (inl e))))) = omega arith
 interval-small i (inr (inr (inr (inr (inr (inl e)))))) = omega arith
 interval-small i (inr (inr (inr (inr (inr (inr (inl e))))))) = omega arith
 interval-small i (inr (inr (inr (inr (inr (inr (inr (inl e)))))))) = omega arith
+interval-small i (inr (inr (inr (inr (inr (inr (inr (inr x)))))))) = elim x [ ]
 
 -- what the invariant says of a Trickle state is all that its methods ask
 pub fits-small : (last : ℕ) (t : Trickle) → last ≤ last_reading → TrickleFits last (trickle_of t) → Small t

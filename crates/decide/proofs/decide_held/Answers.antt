@@ -4,30 +4,30 @@ use mathlib.Core.Path.{ap}
 use Rattle.decide.proofs.decide_held.Goals as goal
 
 pub returns-then-not-is_different : goal.returns-then-not-is_different
-returns-then-not-is_different c =
+returns-then-not-is_different c v x =
     unwanted c.args.t c.args.place c.args.node c.args.seq c.args.age c.args.hash.now c.args.bytes.now v c.requires.0 x c.meta_at-e.result c.requires.1 c.meta_at-e.ensures
     c.is_different.result c.is_different.ensures (ap not c.if-not-is_different.true)
 
 pub returns-then-is_fine : goal.returns-then-is_fine
-returns-then-is_fine c =
+returns-then-is_fine c v x =
     replaces c.args.t c.args.place c.args.node c.args.seq c.args.age c.args.hash.now c.args.bytes.now v c.requires.0 x c.meta_at-e.result c.requires.1 c.meta_at-e.ensures
     c.is_different.result c.is_different.ensures (ap not c.if-not-is_different.false)
     c.is_carrying.result c.is_carrying.ensures c.if-is_carrying.true c.is_fine.result c.is_fine.ensures c.if-is_fine.true
 
 pub returns-then-is_carrying : goal.returns-then-is_carrying
-returns-then-is_carrying c =
+returns-then-is_carrying c v x =
     bad_held c.args.t c.args.place c.args.node c.args.seq c.args.age c.args.hash.now c.args.bytes.now v c.requires.0 x c.meta_at-e.result c.requires.1 c.meta_at-e.ensures
     c.is_different.result c.is_different.ensures (ap not c.if-not-is_different.false)
     c.is_carrying.result c.is_carrying.ensures c.if-is_carrying.true c.is_fine.result c.is_fine.ensures c.if-is_fine.false
 
 pub returns-then-is_same : goal.returns-then-is_same
-returns-then-is_same c =
+returns-then-is_same c v x =
     renumbers c.args.t c.args.place c.args.node c.args.seq c.args.age c.args.hash.now c.args.bytes.now v c.requires.0 x c.meta_at-e.result c.requires.1 c.meta_at-e.ensures
     c.is_different.result c.is_different.ensures (ap not c.if-not-is_different.false)
     c.is_carrying.result c.is_carrying.ensures c.if-is_carrying.false c.is_same.result c.is_same.ensures c.if-is_same.true
 
 pub returns : goal.returns
-returns c =
+returns c v x =
     asks_held c.args.t c.args.place c.args.node c.args.seq c.args.age c.args.hash.now c.args.bytes.now v c.requires.0 x c.meta_at-e.result c.requires.1 c.meta_at-e.ensures
     c.is_different.result c.is_different.ensures (ap not c.if-not-is_different.false)
     c.is_carrying.result c.is_carrying.ensures c.if-is_carrying.false c.is_same.result c.is_same.ensures c.if-is_same.false

@@ -3,4 +3,4 @@ use Rattle.table.proofs.Tables.{none-held}
 use Rattle.table.proofs.empty.Goals as goal
 
 pub returns : goal.returns
-returns c = none-held m _ h refl
+returns c m h = none-held m _ h refl

@@ -40,7 +40,7 @@ loop-at-preserved-then-is_idle c =
     let w = gather c' c.args.s c.loop-at.t c.loop-at.p c.loop-at.d in
     let z = passed-step c' w c.loop-at.mem c.loop-at.room (tlv_of c.args.datagram.now c.loop-at.at c.tlv_at-h.result) c.loop-at.invariant.0.ready c.tlv_at-h.result.kind (sym c.tlv_at-h.ensures.kind) (sym c.is_idle.ensures ∙ c.if-is_idle.true) in (
       through_on c' c.args.datagram.now _ c.args.mem.now c.args.room.now c.loop-at.at w c.loop-at.mem c.loop-at.room c.loop-at.invariant.0 c.tlv_at-h.result c.tlv_at-h.ensures
-          (bytes-known c.args.datagram.now (λ i. (c.type_inv.datagram.given i).fits)) c.requires.1.1.1.1.1.1.1 (rw c.at_start-d.ensures.1 refl) (rw c.at_start-d.ensures.1 refl) w c.loop-at.mem c.loop-at.room z,
+          (bytes-known c.args.datagram.now (λ i. (c.type_inv.datagram i).fits)) c.requires.1.1.1.1.1.1.1 (rw c.at_start-d.ensures.1 refl) (rw c.at_start-d.ensures.1 refl) w c.loop-at.mem c.loop-at.room z,
       c.loop-at.invariant.1,
     )
 
@@ -81,7 +81,7 @@ pub loop-at-preserved-then-is_meeting : goal.loop-at-preserved-then-is_meeting
 loop-at-preserved-then-is_meeting c =
     let c'' = context_in c.args.s c.args.clock c.args.endpoint c.args.unicast c.args.randoms c.looked-o.result.found in (
       carried_on c.args.s c.args.datagram.now c.args.clock c.args.endpoint c.args.unicast c.args.randoms _ c.args.mem.now c.args.room.now c.loop-at.at c.loop-at.t c.loop-at.p c.loop-at.d c.loop-at.mem c.loop-at.room c.loop-at.invariant.0 c.tlv_at-h.result c.tlv_at-h.ensures c.looked-o.result.found c.looked-o.ensures.1
-          (bytes-known c.args.datagram.now (λ i. (c.type_inv.datagram.given i).fits)) c.requires.1.1.1.1.1.1.1 (rw c.at_start-d.ensures.1 refl) (rw c.at_start-d.ensures.1 refl) _
+          (bytes-known c.args.datagram.now (λ i. (c.type_inv.datagram i).fits)) c.requires.1.1.1.1.1.1.1 (rw c.at_start-d.ensures.1 refl) (rw c.at_start-d.ensures.1 refl) _
           (c.tlv_at-h.ensures.value ∙ sym (part-is c.args.datagram.now c.tlv_at-h.result.start (c.tlv_at-h.result.start + c.tlv_at-h.result.len) c.tlv_at-h.result.len refl)) c.on_tlv-x.result c.on_tlv-x.ensures
           c.answered-d.result _ c.answered-d.ensures c.if-is_altering.t c.if-is_altering.mem
           (⊎_elim (λ b. rw (b.6, b.7) b.3.ensures) (λ b. rw (b.1, b.2) (unaltered c'' c.on_tlv-x.result.progress.sender c.on_tlv-x.result.act c.is_altering.result c.is_altering.ensures b.0.left _ c.loop-at.t c.loop-at.mem)) c.if-is_altering.branch)
@@ -97,7 +97,7 @@ pub loop-at-preserved : goal.loop-at-preserved
 loop-at-preserved c =
     let c'' = context_in c.args.s c.args.clock c.args.endpoint c.args.unicast c.args.randoms c.looked-o.result.found in (
       carried_on c.args.s c.args.datagram.now c.args.clock c.args.endpoint c.args.unicast c.args.randoms _ c.args.mem.now c.args.room.now c.loop-at.at c.loop-at.t c.loop-at.p c.loop-at.d c.loop-at.mem c.loop-at.room c.loop-at.invariant.0 c.tlv_at-h.result c.tlv_at-h.ensures c.looked-o.result.found c.looked-o.ensures.1
-          (bytes-known c.args.datagram.now (λ i. (c.type_inv.datagram.given i).fits)) c.requires.1.1.1.1.1.1.1 (rw c.at_start-d.ensures.1 refl) (rw c.at_start-d.ensures.1 refl) _
+          (bytes-known c.args.datagram.now (λ i. (c.type_inv.datagram i).fits)) c.requires.1.1.1.1.1.1.1 (rw c.at_start-d.ensures.1 refl) (rw c.at_start-d.ensures.1 refl) _
           (c.tlv_at-h.ensures.value ∙ sym (part-is c.args.datagram.now c.tlv_at-h.result.start (c.tlv_at-h.result.start + c.tlv_at-h.result.len) c.tlv_at-h.result.len refl)) c.on_tlv-x.result c.on_tlv-x.ensures
           c.answered-d.result _ c.answered-d.ensures c.if-is_altering.t c.if-is_altering.mem
           (⊎_elim (λ b. rw (b.6, b.7) b.3.ensures) (λ b. rw (b.1, b.2) (unaltered c'' c.on_tlv-x.result.progress.sender c.on_tlv-x.result.act c.is_altering.result c.is_altering.ensures b.0.left _ c.loop-at.t c.loop-at.mem)) c.if-is_altering.branch)

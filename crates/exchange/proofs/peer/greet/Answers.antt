@@ -10,7 +10,7 @@ pub meta_at-e-requires : goal.meta_at-e-requires
 meta_at-e-requires c = (c.requires.0.kept.arranged, c.own_place-i.ensures.at)
 
 pub returns-then-has_room : goal.returns-then-has_room
-returns-then-has_room c = told_greets v c.requires.0 c.own_place-i.result c.own_place-i.ensures c.meta_at-e.result.len (ap (λ (e : Meta). e.len) c.meta_at-e.ensures.same) c.has_room.result c.has_room.ensures c.if-has_room.true
+returns-then-has_room c v = told_greets v c.requires.0 c.own_place-i.result c.own_place-i.ensures c.meta_at-e.result.len (ap (λ (e : Meta). e.len) c.meta_at-e.ensures.same) c.has_room.result c.has_room.ensures c.if-has_room.true
 
 pub returns : goal.returns
-returns c = told-dropped v c.requires.0 c.own_place-i.result c.own_place-i.ensures c.meta_at-e.result.len (ap (λ (e : Meta). e.len) c.meta_at-e.ensures.same) c.has_room.result c.has_room.ensures c.if-has_room.false
+returns c v = told-dropped v c.requires.0 c.own_place-i.result c.own_place-i.ensures c.meta_at-e.result.len (ap (λ (e : Meta). e.len) c.meta_at-e.ensures.same) c.has_room.result c.has_room.ensures c.if-has_room.false

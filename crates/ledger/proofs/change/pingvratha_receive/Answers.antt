@@ -25,4 +25,4 @@ returns c =
     let e = sym (c.of_datagram-number.ensures (state_of c.args.state c.args.memory.now) (state-last c.args.state c.args.memory.now)) ∙ c.if-number-ne0.false in
     let g = (receive_facts c.args.state c.args.memory.now c.args.room.now c.requires c.args.datagram.now c.args.clock c.args.endpoint c.args.unicast c.args.randoms.now e).0 in
     receive_yes c.args.state c.args.memory.now c.args.room.now c.requires c.args.datagram.now c.args.clock c.args.endpoint c.args.unicast c.args.randoms.now
-    c.handle.result c.handle.new.mem c.handle.new.room e g.1.1.1.0 g.1.1.1.1 (bytes-known c.args.datagram.now (λ i. omega (arith, c.type_inv.datagram.given i))) c.handle.ensures
+    c.handle.result c.handle.new.mem c.handle.new.room e g.1.1.1.0 g.1.1.1.1 (bytes-known c.args.datagram.now (λ i. omega (arith, c.type_inv.datagram i))) c.handle.ensures

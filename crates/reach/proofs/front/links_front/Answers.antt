@@ -16,6 +16,6 @@ slice_bounds-result-end c = omega (arith, c.place_from-end.ensures.passed.within
 
 pub returns : goal.returns
 returns c =
-    let b = bytes-known c.args.d.now (λ i. omega (arith, c.type_inv.d.given i)) in
+    let b = bytes-known c.args.d.now (λ i. omega (arith, c.type_inv.d i)) in
     let e : c.place_from-end.result - 0 ≡ c.place_from-end.result = omega arith in
     rw e (front-is data_limit c.args.d.now c.requires b c.place_from-end.result c.place_from-end.ensures)

@@ -40,7 +40,7 @@ pub store-requires : goal.store-requires
 store-requires c = (inside c).0
 
 pub overflow_add-result : goal.overflow_add-result
-overflow_add-result c = omega (arith, (inside c).0, (inside c).1, c.well-formed.1.1.1.0.0)
+overflow_add-result c = omega (arith, (inside c).0, (inside c).1, c.well_formed.1.1.1.0.0)
 
 pub returns : goal.returns
 returns c =

@@ -11,5 +11,5 @@ place_from-start-requires c = (omega arith, good-row data_limit c.args.d.now c.r
 
 pub returns : goal.returns
 returns c =
-    let b = bytes-known c.args.d.now (λ i. omega (arith, c.type_inv.d.given i)) in
+    let b = bytes-known c.args.d.now (λ i. omega (arith, c.type_inv.d i)) in
     (links-within c.args.d.now c.requires b c.place_from-start.result c.place_from-end.result c.place_from-start.ensures c.place_from-end.ensures, links-cut c.args.d.now c.requires b c.place_from-start.result c.place_from-end.result c.place_from-start.ensures c.place_from-end.ensures)

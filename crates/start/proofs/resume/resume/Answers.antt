@@ -14,10 +14,10 @@ republish-published-requires c =
 pub with_digest-requires : goal.with_digest-requires
 with_digest-requires c =
     resume-readable c.args.clock c.args.bytes.now c.args.randoms c.args.mem.now c.args.s c.load-loaded.result c.load-loaded.new.mem c.load-loaded.ensures
-    c.if-not-loaded.false c.undigested-begun.result c.undigested-begun.ensures c.requires.1 c.well-formed.1.1.1.1.0.1.0.1 c.republish-published.result c.republish-published.new.mem c.republish-published.ensures
+    c.if-not-loaded.false c.undigested-begun.result c.undigested-begun.ensures c.requires.1 c.well_formed.1.1.1.1.0.1.0.1 c.republish-published.result c.republish-published.new.mem c.republish-published.ensures
 
 pub returns : goal.returns
 returns c =
     resume_done c.args.clock c.args.bytes.now c.args.randoms c.args.mem.now c.args.s c.load-loaded.result c.load-loaded.new.mem c.load-loaded.ensures
-    c.if-not-loaded.false c.undigested-begun.result c.undigested-begun.ensures c.requires.1 c.well-formed.1.1.1.1.0.1.0.1 c.republish-published.result c.republish-published.new.mem c.republish-published.ensures
+    c.if-not-loaded.false c.undigested-begun.result c.undigested-begun.ensures c.requires.1 c.well_formed.1.1.1.1.0.1.0.1 c.republish-published.result c.republish-published.new.mem c.republish-published.ensures
     c.with_digest.result c.with_digest.ensures
