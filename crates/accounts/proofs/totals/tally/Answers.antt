@@ -1,10 +1,10 @@
 use borrow.Author.Rules.{rules}
-use mathlib.Core.Logic.{⊎_elim}
 use Prim.Native.Nat.{◌-◌}
 use native.Mathlib.Omega.{arith}
 use Rattle.table.specs.View.{view}
 use Rattle.accounts.proofs.Sums.{table-start, meta_good, metas_room, metas_stay, metas_on, metas_end}
 use Rattle.accounts.proofs.totals.tally.Goals as goal
+use Rattle.accounts.proofs.totals.tally.Goals.{then-marks-i, else-marks-i}
 
 pub loop-i-init : goal.loop-i-init
 loop-i-init c = (omega arith, table-start c.args.w c.args.marks (view c.args.t c.args.mem.now))
@@ -23,10 +23,10 @@ pub loop-i-preserved : goal.loop-i-preserved
 loop-i-preserved c =
     (
       omega arith,
-      ⊎_elim
-          (λ b. metas_on c.args.t c.args.mem.now c.requires.0 c.args.w c.args.marks c.loop-i.r c.loop-i.i c.loop-i.invariant.1 c.if-marks-i.r c.loop-i-test.true b.0.taken b.1.result.now b.1.ensures.0 b.2.result b.2.ensures b.3)
-          (λ b. metas_stay c.args.t c.args.mem.now c.requires.0 c.args.w c.args.marks c.loop-i.r c.loop-i.i c.loop-i.invariant.1 c.if-marks-i.r c.loop-i-test.true b.0.left b.1)
-          c.if-marks-i.branch,
+      elim c.if-marks-i.branch [
+        then-marks-i w ↦ metas_on c.args.t c.args.mem.now c.requires.0 c.args.w c.args.marks c.loop-i.r c.loop-i.i c.loop-i.invariant.1 c.if-marks-i.r c.loop-i-test.true w.if-marks-i.true w.data_of.result.now w.data_of.ensures.0 w.add_data-r.result w.add_data-r.ensures w.r-is
+        | else-marks-i w ↦ metas_stay c.args.t c.args.mem.now c.requires.0 c.args.w c.args.marks c.loop-i.r c.loop-i.i c.loop-i.invariant.1 c.if-marks-i.r c.loop-i-test.true w.if-marks-i.false w.r-is
+      ],
     )
 
 pub returns : goal.returns
