@@ -1,7 +1,7 @@
 -- The peers of the code as those of the model: known, heard, one more. Assumes nothing.
 use mathlib.Core.Path.{◌≡◌, refl, sym, ap, ◌∙◌}
 use mathlib.Core.Bool.{Bool, true, false}
-use mathlib.Core.List.{List, [], ◌∷◌, ◌++◌, map, map_append}
+use mathlib.Core.List.{List, [], ◌∷◌, ◌++◌, map, map-append}
 use Prim.Native.Nat.{ℕ, suc, ◌+◌, ◌≤◌, ◌<◌}
 use native.Mathlib.Omega.{arith}
 use native.Mathlib.Numerals.{add-one}
@@ -126,4 +126,4 @@ pub peers_add : (p : Peers) (e : Peer) → PeersRep p → p.count < most_peers
     → peers_of (record { count = p.count + 1; list = set p.list p.count e }) ≡ peers_of p ++ (peer_of e ∷ [])
 unfolding peers_of
 peers_add p e k h =
-    rw (add-one p.count, take-suc-set p.list p.count e (omega (arith, k.list))) (map_append peer_of (take p.count p.list) (e ∷ []))
+    rw (add-one p.count, take-suc-set p.list p.count e (omega (arith, k.list))) (map-append peer_of (take p.count p.list) (e ∷ []))

@@ -126,6 +126,7 @@ rising limit d g b =
     long t w = omega (arith, heads-four t w.heads)
 
     all_wholes : (ts : List (List ℕ)) → Wholes ts → (t : List ℕ) → In t ts → Whole t
+    all_wholes [] w t x = elim x [ ]
     all_wholes (u ∷ ts) w t (inl q) = subst Whole (sym q) w.0
     all_wholes (u ∷ ts) w t (inr i) = all_wholes ts w.1 t i
 

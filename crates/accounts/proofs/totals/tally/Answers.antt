@@ -24,8 +24,8 @@ loop-i-preserved c =
     (
       omega arith,
       elim c.if-marks-i.branch [
-        then-marks-i w ↦ metas_on c.args.t c.args.mem.now c.requires.0 c.args.w c.args.marks c.loop-i.r c.loop-i.i c.loop-i.invariant.1 c.if-marks-i.r c.loop-i-test.true w.if-marks-i.true w.data_of.result.now w.data_of.ensures.0 w.add_data-r.result w.add_data-r.ensures w.r-is
-        | else-marks-i w ↦ metas_stay c.args.t c.args.mem.now c.requires.0 c.args.w c.args.marks c.loop-i.r c.loop-i.i c.loop-i.invariant.1 c.if-marks-i.r c.loop-i-test.true w.if-marks-i.false w.r-is
+          then-marks-i b ↦ metas_on c.args.t c.args.mem.now c.requires.0 c.args.w c.args.marks c.loop-i.r c.loop-i.i c.loop-i.invariant.1 c.if-marks-i.r c.loop-i-test.true b.if-marks-i.true b.data_of.result.now b.data_of.ensures.0 b.add_data-r.result b.add_data-r.ensures b.r-is
+        | else-marks-i b ↦ metas_stay c.args.t c.args.mem.now c.requires.0 c.args.w c.args.marks c.loop-i.r c.loop-i.i c.loop-i.invariant.1 c.if-marks-i.r c.loop-i-test.true b.if-marks-i.false b.r-is
       ],
     )
 

@@ -1,9 +1,9 @@
 use mathlib.Core.Path.{refl, sym, ◌∙◌}
-use mathlib.Core.Logic.{⊎_elim}
 use Prim.Native.Nat.{◌-◌}
 use native.Mathlib.Omega.{arith}
 use Rattle.node.proofs.Stripping.{named_end, named_unmarked, named_here, named_other}
 use Rattle.node.proofs.leaving.is_marked_link.Goals as goal
+use Rattle.node.proofs.leaving.is_marked_link.Goals.{then-marks-i+else-is_link, else-marks-i}
 
 pub loop-i-init : goal.loop-i-init
 loop-i-init c = (omega arith, refl)
@@ -14,7 +14,10 @@ returns-then-is_link c =
 
 pub loop-i-preserved : goal.loop-i-preserved
 loop-i-preserved c =
-    (omega arith, c.loop-i.invariant.1 ∙ ⊎_elim (λ b. named_other c.args.marks c.args.p c.requires c.args.tlv.now c.loop-i.i (omega arith) _ b.2.ensures b.0.taken b.3.left) (λ b. named_unmarked c.args.marks c.args.p c.requires c.args.tlv.now c.loop-i.i (omega arith) b.left) c.if-marks-i.branch)
+    (omega arith, c.loop-i.invariant.1 ∙ elim c.if-marks-i.branch [
+        then-marks-i+else-is_link b ↦ named_other c.args.marks c.args.p c.requires c.args.tlv.now c.loop-i.i (omega arith) _ b.is_link.ensures b.if-marks-i.true b.if-is_link.false
+      | else-marks-i b ↦ named_unmarked c.args.marks c.args.p c.requires c.args.tlv.now c.loop-i.i (omega arith) b.if-marks-i.false
+    ])
 
 pub returns : goal.returns
 returns c =

@@ -10,11 +10,11 @@ use Rattle.reach.proofs.link.is_joined.Given as goal
 
 abbrev pub invariant-loop-j : goal.invariant-loop-j
 invariant-loop-j l =
-    (l.j ≤ length l.l.y) × (is_row (drop l.j l.l.y) ≡ true) × (l.found ≡ false)
-    × (any (answers l.l.r l.l.n (link_in l.l)) (tlvs l.l.y) ≡ any (answers l.l.r l.l.n (link_in l.l)) (tlvs (drop l.j l.l.y)))
+    (l.j ≤ length l.y) × (is_row (drop l.j l.y) ≡ true) × (l.found ≡ false)
+    × (any (answers l.r l.n (link_in l.l)) (tlvs l.y) ≡ any (answers l.r l.n (link_in l.l)) (tlvs (drop l.j l.y)))
 
 abbrev pub decreases-loop-j : goal.decreases-loop-j
-decreases-loop-j l = length l.l.y - l.j
+decreases-loop-j l = length l.y - l.j
 
 abbrev pub invariant-search : goal.invariant-search
 invariant-search l =

@@ -1,6 +1,5 @@
 use borrow.Author.Rules.{rules}
 use mathlib.Core.Path.{refl}
-use mathlib.Core.Logic.{⊎_elim}
 use Prim.Native.Nat.{◌-◌, ◌<◌}
 use native.Mathlib.Omega.{arith}
 use lib.ListN.{length}
@@ -9,6 +8,7 @@ use Rattle.table.proofs.Tables.{live-length}
 use Rattle.reach.proofs.Digests.{read_live}
 use Rattle.reach.proofs.Listing.{list-start, list-stay, list_on, list_end}
 use Rattle.reach.proofs.list.marked_nodes.Goals as goal
+use Rattle.reach.proofs.list.marked_nodes.Goals.{then-marks-i, else-marks-i}
 
 pub loop-i-init : goal.loop-i-init
 loop-i-init c = (omega arith, list-start _ _)
@@ -28,10 +28,10 @@ pub loop-i-preserved : goal.loop-i-preserved
 loop-i-preserved c =
     let l : c.loop-i.i < length (live c.args.t) = rw (live-length c.args.t c.requires) (omega arith) in (
       omega arith,
-      ⊎_elim
-          (λ b. rw b.3 (list_on c.args.marks (live c.args.t) c.loop-i.list c.loop-i.n c.loop-i.i c.loop-i.invariant.1 l b.1.result c.if-marks-i.list b.0.taken (omega (arith, c.requires.most)) (read_live c.args.t c.loop-i.i b.1.result (omega arith) b.1.ensures) b.2))
-          (λ b. rw (b.1, b.2) (list-stay c.args.marks (live c.args.t) c.loop-i.list c.loop-i.n c.loop-i.i c.loop-i.invariant.1 l b.0.left))
-          c.if-marks-i.branch,
+      elim c.if-marks-i.branch [
+          then-marks-i b ↦ rw b.n-is (list_on c.args.marks (live c.args.t) c.loop-i.list c.loop-i.n c.loop-i.i c.loop-i.invariant.1 l b.meta_at-e.result c.if-marks-i.list b.if-marks-i.true (omega (arith, c.requires.most)) (read_live c.args.t c.loop-i.i b.meta_at-e.result (omega arith) b.meta_at-e.ensures) b.list-is)
+        | else-marks-i b ↦ rw (b.list-is, b.n-is) (list-stay c.args.marks (live c.args.t) c.loop-i.list c.loop-i.n c.loop-i.i c.loop-i.invariant.1 l b.if-marks-i.false)
+      ],
     )
 
 pub returns : goal.returns

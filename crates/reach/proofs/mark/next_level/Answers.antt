@@ -1,11 +1,13 @@
 use native.Mathlib.Omega.{arith}
 use Prim.Native.Nat.{◌-◌}
-use mathlib.Core.Path.{sym, ◌∙◌}
-use mathlib.Core.Logic.{⊎_elim}
+use mathlib.Core.Path.{sym, ap, ◌∙◌}
+use mathlib.Core.Bool.{not}
 use Rattle.table.proofs.Tables.{view-length}
 use Rattle.reach.proofs.Nodes.{few-nodes, held, legible_at, leads_at_lem}
 use Rattle.reach.proofs.Nexts.{tried_none, tried_all, tried_out, tried_in, tried_on, trying_met, trying_unled, trying_led}
 use Rattle.reach.proofs.mark.next_level.Goals as goal
+use Rattle.reach.proofs.mark.next_level.Goals.{then-level-r+else-loop-v-test, else-level-r}
+use Rattle.reach.proofs.mark.next_level.Goals.{then-not-met-v+then-is_leading, then-not-met-v+else-is_leading, else-not-met-v}
 
 pub loop-r-init : goal.loop-r-init
 loop-r-init c =
@@ -25,23 +27,22 @@ loop-v-preserved c =
     let q = held c.args.t c.args.mem.now c.requires.kept.arranged c.loop-v.v c.loop-v-test.true in
     let at = leads_at_lem c.args.clock c.args.t c.args.mem.now c.requires c.loop-r.r c.loop-v.v c.loop-r-test.true c.loop-v-test.true in (
       omega arith,
-      ⊎_elim
-          (λ b. rw b.4
-          (trying_led _ _ _ _ c.loop-r.r p c.if-level-r.true c.loop-v.v q c.loop-v.next c.loop-v.invariant.1 (few-nodes c.args.t c.args.mem.now c.requires.kept.arranged) b.0.taken (sym at ∙ sym b.2.ensures ∙ b.3.taken)))
-          (⊎_elim
-          (λ b. rw b.4 (trying_unled _ _ _ _ c.loop-r.r p c.if-level-r.true c.loop-v.v q c.loop-v.next c.loop-v.invariant.1 (sym at ∙ sym b.2.ensures ∙ b.3.left)))
-          (λ b. rw b.1 (trying_met _ _ _ _ c.loop-r.r p c.if-level-r.true c.loop-v.v q c.loop-v.next c.loop-v.invariant.1 b.0.left)))
-          c.if-not-met-v.branch,
+      elim c.if-not-met-v.branch [
+          then-not-met-v+then-is_leading b ↦ rw b.next-is
+          (trying_led _ _ _ _ c.loop-r.r p c.if-level-r.true c.loop-v.v q c.loop-v.next c.loop-v.invariant.1 (few-nodes c.args.t c.args.mem.now c.requires.kept.arranged) (ap not b.if-not-met-v.true) (sym at ∙ sym b.is_leading.ensures ∙ b.if-is_leading.true))
+        | then-not-met-v+else-is_leading b ↦ rw b.next-is (trying_unled _ _ _ _ c.loop-r.r p c.if-level-r.true c.loop-v.v q c.loop-v.next c.loop-v.invariant.1 (sym at ∙ sym b.is_leading.ensures ∙ b.if-is_leading.false))
+        | else-not-met-v b ↦ rw b.next-is (trying_met _ _ _ _ c.loop-r.r p c.if-level-r.true c.loop-v.v q c.loop-v.next c.loop-v.invariant.1 (ap not b.if-not-met-v.false))
+      ],
     )
 
 pub loop-r-preserved : goal.loop-r-preserved
 loop-r-preserved c =
     let p = held c.args.t c.args.mem.now c.requires.kept.arranged c.loop-r.r c.loop-r-test.true in (
       omega arith,
-      ⊎_elim
-          (λ b. rw b.4 (tried_on _ _ _ _ c.loop-r.r p b.2.v b.2.next b.2.inv.1 (omega (arith, b.3.left, view-length c.args.t c.requires.kept.arranged c.args.mem.now))))
-          (λ b. rw b.1 (tried_out _ _ _ _ c.loop-r.r p c.loop-r.next c.loop-r.invariant.1 b.0.left))
-          c.if-level-r.branch,
+      elim c.if-level-r.branch [
+          then-level-r+else-loop-v-test b ↦ rw b.next-is (tried_on _ _ _ _ c.loop-r.r p b.loop-v.v b.loop-v.next b.loop-v.invariant.1 (omega (arith, b.loop-v-test.false, view-length c.args.t c.requires.kept.arranged c.args.mem.now)))
+        | else-level-r b ↦ rw b.next-is (tried_out _ _ _ _ c.loop-r.r p c.loop-r.next c.loop-r.invariant.1 b.if-level-r.false)
+      ],
     )
 
 pub returns : goal.returns

@@ -1,12 +1,12 @@
 use borrow.Author.Rules.{rules}
 use Prim.Native.Nat.{◌-◌}
 use mathlib.Core.List.{[]}
-use mathlib.Core.Logic.{⊎_elim}
 use native.Mathlib.Omega.{arith}
 use Rattle.reply.proofs.Replies.{replied_as}
 use Rattle.reply.proofs.States.{front_fits, front-short, front-room}
 use Rattle.reply.proofs.Answers.{listing_start, listing_stay, listing_on, listing_end}
 use Rattle.reply.proofs.tell.reply_states.Goals as goal
+use Rattle.reply.proofs.tell.reply_states.Goals.{then-marks-i, else-marks-i}
 
 pub loop-i-init : goal.loop-i-init
 loop-i-init c = listing_start c.args.c c.args.t c.args.marks c.args.d c.args.mem.now c.args.room.now c.requires.0.kept.arranged c.requires.1.1.0.used c.requires.1.1.0.headed
@@ -34,11 +34,11 @@ reply-v-requires c =
 
 pub loop-i-preserved : goal.loop-i-preserved
 loop-i-preserved c =
-    ⊎_elim
-    (λ b. rw (b.9, b.10) (listing_on c.args.c c.args.t c.args.marks c.args.d c.args.mem.now c.args.room.now c.requires.0.kept.arranged c.loop-i.i c.loop-i.v c.loop-i.room c.loop-i.invariant (omega arith) b.0.taken _ _
-    (replied_as b.6.ensures (front-short c.args.c.clock c.args.t c.args.mem.now c.requires.0 c.loop-i.i (omega arith) b.1.result b.1.ensures _ b.2.ensures))))
-    (λ b. rw (b.1, b.2) (listing_stay c.args.c c.args.t c.args.marks c.args.d c.args.mem.now c.args.room.now c.requires.0.kept.arranged c.loop-i.i c.loop-i.v c.loop-i.room c.loop-i.invariant (omega arith) b.0.left))
-    c.if-marks-i.branch
+    elim c.if-marks-i.branch [
+        then-marks-i b ↦ rw (b.v-is, b.room-is) (listing_on c.args.c c.args.t c.args.marks c.args.d c.args.mem.now c.args.room.now c.requires.0.kept.arranged c.loop-i.i c.loop-i.v c.loop-i.room c.loop-i.invariant (omega arith) b.if-marks-i.true _ _
+        (replied_as b.reply-v.ensures (front-short c.args.c.clock c.args.t c.args.mem.now c.requires.0 c.loop-i.i (omega arith) b.meta_at.result b.meta_at.ensures _ b.node_state_front-front.ensures)))
+      | else-marks-i b ↦ rw (b.v-is, b.room-is) (listing_stay c.args.c c.args.t c.args.marks c.args.d c.args.mem.now c.args.room.now c.requires.0.kept.arranged c.loop-i.i c.loop-i.v c.loop-i.room c.loop-i.invariant (omega arith) b.if-marks-i.false)
+    ]
 
 pub returns : goal.returns
 returns c =

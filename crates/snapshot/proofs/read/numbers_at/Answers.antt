@@ -6,53 +6,38 @@ use Rattle.model.specs.Figures.{most_age}
 use Rattle.snapshot.proofs.Reading.{Got, value, unread, node-unread, node-below, seq-unread, age-unread, numbered}
 use Rattle.snapshot.proofs.read.numbers_at.Goals as goal
 
-node-got : (c : tie.After-first) → Got c.before.before.before.before.args.s.now c.before.before.before.before.args.at most_u32 c.first.given.0.0 c.first.given.0.1.0
-node-got c =
-    let g = c.first.given in
-    value c.before.before.before.before.args.s.now c.before.before.before.before.args.at most_u32 c.before.before.read-groups.result c.before.before.read-groups.ensures g.0.0 g.0.1.0 g.1
-
-seq-got : (c : tie.After-second) → Got c.before.before.before.before.before.before.before.before.before.args.s.now c.before.before.before.before.before.first.given.0.1.0 most_u32 c.second.given.0.0 c.second.given.0.1.0
-seq-got c =
-    let g = c.second.given in
-    value c.before.before.before.before.before.before.before.before.before.args.s.now c.before.before.before.before.before.first.given.0.1.0 most_u32 c.before.before.read-groups2.result c.before.before.read-groups2.ensures g.0.0 g.0.1.0 g.1
-
-age-got : (c : tie.After-third) → Got c.before.before.before.before.before.before.before.before.before.before.before.before.before.args.s.now c.before.before.before.before.second.given.0.1.0 most_age c.third.given.0.0 c.third.given.0.1.0
-age-got c =
-    let g = c.third.given in
-    value c.before.before.before.before.before.before.before.before.before.before.before.before.before.args.s.now c.before.before.before.before.second.given.0.1.0 most_age c.before.before.read-groups3.result c.before.before.read-groups3.ensures g.0.0 g.0.1.0 g.1
-
 pub returns-in_default : goal.returns-in_default
 returns-in_default c =
     node-unread c.args.s.now c.args.at c.args.low (unread c.args.s.now c.args.at most_u32 c.read_groups-first.result c.read_groups-first.ensures c.in_default.is)
 
 pub returns-then-node-low : goal.returns-then-node-low
 returns-then-node-low c =
-    node-below c.args.s.now c.args.at c.args.low c.in-Value.node c.in-Value.a (node-got c) c.if-node-low.true
+    node-below c.args.s.now c.args.at c.args.low c.in-Value.node c.in-Value.a (value c.args.s.now c.args.at most_u32 c.read_groups-first.result c.read_groups-first.ensures c.in-Value.node c.in-Value.a c.in-Value.is) c.if-node-low.true
 
 pub read_groups-second-requires : goal.read_groups-second-requires
-read_groups-second-requires c = ((node-got c).within, omega arith)
+read_groups-second-requires c = ((value c.args.s.now c.args.at most_u32 c.read_groups-first.result c.read_groups-first.ensures c.in-Value.node c.in-Value.a c.in-Value.is).within, omega arith)
 
 pub returns-in_default-second : goal.returns-in_default-second
 returns-in_default-second c =
-    seq-unread c.args.s.now c.args.at c.args.low c.in-Value.node c.in-Value.a (node-got c) (unread c.args.s.now c.in-Value.a most_u32 c.read_groups-second.result c.read_groups-second.ensures c.in_default-second.is)
+    seq-unread c.args.s.now c.args.at c.args.low c.in-Value.node c.in-Value.a (value c.args.s.now c.args.at most_u32 c.read_groups-first.result c.read_groups-first.ensures c.in-Value.node c.in-Value.a c.in-Value.is) (unread c.args.s.now c.in-Value.a most_u32 c.read_groups-second.result c.read_groups-second.ensures c.in_default-second.is)
 
 pub read_groups-third-requires : goal.read_groups-third-requires
-read_groups-third-requires c = ((seq-got c).within, omega arith)
+read_groups-third-requires c = ((value c.args.s.now c.in-Value.a most_u32 c.read_groups-second.result c.read_groups-second.ensures c.in-Value-second.seq c.in-Value-second.b c.in-Value-second.is).within, omega arith)
 
 pub returns-in_default-third : goal.returns-in_default-third
 returns-in_default-third c =
-    age-unread c.args.s.now c.args.at c.args.low c.in-Value.node c.in-Value.a (node-got c) c.in-Value-second.seq c.in-Value-second.b (seq-got c) c.if-node-low.false
+    age-unread c.args.s.now c.args.at c.args.low c.in-Value.node c.in-Value.a (value c.args.s.now c.args.at most_u32 c.read_groups-first.result c.read_groups-first.ensures c.in-Value.node c.in-Value.a c.in-Value.is) c.in-Value-second.seq c.in-Value-second.b (value c.args.s.now c.in-Value.a most_u32 c.read_groups-second.result c.read_groups-second.ensures c.in-Value-second.seq c.in-Value-second.b c.in-Value-second.is) c.if-node-low.false
     (unread c.args.s.now c.in-Value-second.b most_age c.read_groups-third.result c.read_groups-third.ensures c.in_default-third.is)
 
 pub overflow_cast-result : goal.overflow_cast-result
-overflow_cast-result c = omega (arith, (node-got c).fits)
+overflow_cast-result c = omega (arith, (value c.args.s.now c.args.at most_u32 c.read_groups-first.result c.read_groups-first.ensures c.in-Value.node c.in-Value.a c.in-Value.is).fits)
 
 pub overflow_cast-result-2 : goal.overflow_cast-result-2
-overflow_cast-result-2 c = omega (arith, (seq-got c).fits)
+overflow_cast-result-2 c = omega (arith, (value c.args.s.now c.in-Value.a most_u32 c.read_groups-second.result c.read_groups-second.ensures c.in-Value-second.seq c.in-Value-second.b c.in-Value-second.is).fits)
 
 pub overflow_cast-result-3 : goal.overflow_cast-result-3
-overflow_cast-result-3 c = omega (arith, (age-got c).fits)
+overflow_cast-result-3 c = omega (arith, (value c.args.s.now c.in-Value-second.b most_age c.read_groups-third.result c.read_groups-third.ensures c.in-Value-third.age c.in-Value-third.next c.in-Value-third.is).fits)
 
 pub returns : goal.returns
 returns c =
-    numbered c.args.s.now c.args.at c.args.low c.in-Value.node c.in-Value.a (node-got c) c.in-Value-second.seq c.in-Value-second.b (seq-got c) c.if-node-low.false c.in-Value-third.age c.in-Value-third.next (age-got c)
+    numbered c.args.s.now c.args.at c.args.low c.in-Value.node c.in-Value.a (value c.args.s.now c.args.at most_u32 c.read_groups-first.result c.read_groups-first.ensures c.in-Value.node c.in-Value.a c.in-Value.is) c.in-Value-second.seq c.in-Value-second.b (value c.args.s.now c.in-Value.a most_u32 c.read_groups-second.result c.read_groups-second.ensures c.in-Value-second.seq c.in-Value-second.b c.in-Value-second.is) c.if-node-low.false c.in-Value-third.age c.in-Value-third.next (value c.args.s.now c.in-Value-second.b most_age c.read_groups-third.result c.read_groups-third.ensures c.in-Value-third.age c.in-Value-third.next c.in-Value-third.is)

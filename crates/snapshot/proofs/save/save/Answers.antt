@@ -11,39 +11,6 @@ use Rattle.table.proofs.Tables.{view-length}
 use Rattle.snapshot.proofs.Saving.{meta_fit, meta_fits, row-size, entry_seen, through_start, through_room, through_next, head_end, head_put, all_saved}
 use Rattle.snapshot.proofs.save.save.Goals as goal
 
-entries : (c : tie.Start invariant-loop decreases-loop) → length (view c.args.t1 c.args.mem.now) ≡ c.args.t1.count
-entries c = view-length c.args.t1 c.requires.0.arranged c.args.mem.now
-
-head-size : (c : tie.After-put-groups3 invariant-loop decreases-loop) → c.put-groups3.result ≡ length (saved_head c.before.before.before.before.before.before.before.before.before.before.before.before.args.own (length (view c.before.before.before.before.before.before.before.before.before.before.before.before.args.t1 c.before.before.before.before.before.before.before.before.before.before.before.before.args.mem.now)))
-head-size c =
-    let a = c.before.before.before.before.before.before.before.before.before.before.before.before.args in
-    let k1 = c.before.before.before.before.before.before.before.before.put-groups in
-    let k2 = c.before.before.before.before.put-groups2 in
-    let k3 = c.put-groups3 in
-    rw (entries c.before.before.before.before.before.before.before.before.before.before.before.before)
-    (head_end a.own a.t1.count a.room.now k1.new.0 k2.new.0 k3.new.0 k1.result k2.result k3.result k1.ensures.0 k1.ensures.1 k2.ensures.0 k2.ensures.1 k3.ensures.0 k3.ensures.1)
-
-head-low : (c : tie.After-put-groups3 invariant-loop decreases-loop) → c.put-groups3.result ≤ head_bytes
-head-low c =
-    let a = c.before.before.before.before.before.before.before.before.before.before.before.before.args in
-    omega (arith, head-size c, head_short a.own (length (view a.t1 a.mem.now)) (omega (arith, c.before.before.before.before.before.before.before.before.before.before.before.before.ranges.own)) c.before.before.before.before.before.before.before.before.before.before.before.before.requires.1.0.nodes)
-
-head-room : (c : tie.After-put-groups3 invariant-loop decreases-loop) → snapshot_bytes ≤ length c.put-groups3.new.0
-head-room c =
-    let k1 = c.before.before.before.before.before.before.before.before.put-groups in
-    let k2 = c.before.before.before.before.put-groups2 in
-    omega (arith, c.before.before.before.before.before.before.before.before.before.before.before.before.requires.1.1.1)
-
-head-there : (c : tie.After-put-groups3 invariant-loop decreases-loop) → c.put-groups3.new.0 ≡ written c.before.before.before.before.before.before.before.before.before.before.before.before.args.room.now 0 (saved_head c.before.before.before.before.before.before.before.before.before.before.before.before.args.own (length (view c.before.before.before.before.before.before.before.before.before.before.before.before.args.t1 c.before.before.before.before.before.before.before.before.before.before.before.before.args.mem.now)))
-head-there c =
-    let a = c.before.before.before.before.before.before.before.before.before.before.before.before.args in
-    let k1 = c.before.before.before.before.before.before.before.before.put-groups in
-    let k2 = c.before.before.before.before.put-groups2 in
-    let k3 = c.put-groups3 in
-    rw (entries c.before.before.before.before.before.before.before.before.before.before.before.before)
-    (head_put a.own a.t1.count a.room.now k1.new.0 k2.new.0 k3.new.0 k1.result k2.result k3.result k1.ensures.0 k1.ensures.1 k2.ensures.0 k2.ensures.1 k3.ensures.0 k3.ensures.1
-    (omega (arith, head-low c, c.before.before.before.before.before.before.before.before.before.before.before.before.requires.1.1.1)))
-
 pub put_groups-a-requires : goal.put_groups-a-requires
 put_groups-a-requires c = omega (arith, groups-length 0 1 (omega arith), c.requires.1.1.1)
 
@@ -70,7 +37,8 @@ save_entry-at-requires c =
         row-size c.args.t c.args.mem.now c.loop-i.i c.requires.0 c.loop-i-test.true _ c.bytes_of.ensures.0,
         (
           c.requires.1.1.0,
-          through_room c.args.own c.args.clock (view c.args.t c.args.mem.now) c.requires.1.0 c.put_groups-at.new.d c.put_groups-at.result (head-low c) (head-room c) c.loop-i.room c.loop-i.at c.loop-i.i c.loop-i.invariant (rw (entries c) c.loop-i-test.true),
+          through_room c.args.own c.args.clock (view c.args.t c.args.mem.now) c.requires.1.0 c.put_groups-at.new.d c.put_groups-at.result (let h : c.put_groups-at.result ≤ head_bytes = omega (arith, (let h : c.put_groups-at.result ≡ length (saved_head c.args.own (length (view c.args.t c.args.mem.now))) = rw (view-length c.args.t c.requires.0.arranged c.args.mem.now)
+    (head_end c.args.own c.args.t.count c.args.room.now c.put_groups-a.new.d c.put_groups-b.new.d c.put_groups-at.new.d c.put_groups-a.result c.put_groups-b.result c.put_groups-at.result c.put_groups-a.ensures.0 c.put_groups-a.ensures.1 c.put_groups-b.ensures.0 c.put_groups-b.ensures.1 c.put_groups-at.ensures.0 c.put_groups-at.ensures.1) in h), head_short c.args.own (length (view c.args.t c.args.mem.now)) (omega (arith, c.ranges.own)) c.requires.1.0.nodes) in h) (let h : snapshot_bytes ≤ length c.put_groups-at.new.d = omega (arith, c.requires.1.1.1) in h) c.loop-i.room c.loop-i.at c.loop-i.i c.loop-i.invariant (rw (view-length c.args.t c.requires.0.arranged c.args.mem.now) c.loop-i-test.true),
         ),
       ),
     )
@@ -84,10 +52,15 @@ loop-i-smaller c = omega (arith, c.loop-i-test.true)
 pub loop-i-preserved : goal.loop-i-preserved
 loop-i-preserved c =
     let e = entry_seen c.args.t c.args.mem.now c.loop-i.i c.requires.0 c.loop-i-test.true _ c.bytes_of.ensures.0 in
-    through_next c.args.own c.args.clock (view c.args.t c.args.mem.now) c.requires.1.0 c.put_groups-at.new.d c.put_groups-at.result (head-low c) (head-room c) c.loop-i.room c.loop-i.at c.loop-i.i c.loop-i.invariant
-    c.save_entry-at.new.room c.save_entry-at.result (rw (entries c) c.loop-i-test.true) (rw e c.save_entry-at.ensures.0) (rw e c.save_entry-at.ensures.1)
+    through_next c.args.own c.args.clock (view c.args.t c.args.mem.now) c.requires.1.0 c.put_groups-at.new.d c.put_groups-at.result (let h : c.put_groups-at.result ≤ head_bytes = omega (arith, (let h : c.put_groups-at.result ≡ length (saved_head c.args.own (length (view c.args.t c.args.mem.now))) = rw (view-length c.args.t c.requires.0.arranged c.args.mem.now)
+    (head_end c.args.own c.args.t.count c.args.room.now c.put_groups-a.new.d c.put_groups-b.new.d c.put_groups-at.new.d c.put_groups-a.result c.put_groups-b.result c.put_groups-at.result c.put_groups-a.ensures.0 c.put_groups-a.ensures.1 c.put_groups-b.ensures.0 c.put_groups-b.ensures.1 c.put_groups-at.ensures.0 c.put_groups-at.ensures.1) in h), head_short c.args.own (length (view c.args.t c.args.mem.now)) (omega (arith, c.ranges.own)) c.requires.1.0.nodes) in h) (let h : snapshot_bytes ≤ length c.put_groups-at.new.d = omega (arith, c.requires.1.1.1) in h) c.loop-i.room c.loop-i.at c.loop-i.i c.loop-i.invariant
+    c.save_entry-at.new.room c.save_entry-at.result (rw (view-length c.args.t c.requires.0.arranged c.args.mem.now) c.loop-i-test.true) (rw e c.save_entry-at.ensures.0) (rw e c.save_entry-at.ensures.1)
 
 pub returns : goal.returns
 returns c =
     all_saved c.args.own c.args.clock (view c.args.t c.args.mem.now) c.args.room.now c.put_groups-at.new.d c.loop-i.room c.put_groups-at.result c.loop-i.at c.loop-i.i c.requires.1.0 (omega (arith, c.ranges.own)) c.requires.1.1.1
-    (head-there c) (head-size c) c.loop-i.invariant (rw (entries c) c.loop-i-test.false)
+    (let h : c.put_groups-at.new.d ≡ written c.args.room.now 0 (saved_head c.args.own (length (view c.args.t c.args.mem.now))) = rw (view-length c.args.t c.requires.0.arranged c.args.mem.now)
+    (head_put c.args.own c.args.t.count c.args.room.now c.put_groups-a.new.d c.put_groups-b.new.d c.put_groups-at.new.d c.put_groups-a.result c.put_groups-b.result c.put_groups-at.result c.put_groups-a.ensures.0 c.put_groups-a.ensures.1 c.put_groups-b.ensures.0 c.put_groups-b.ensures.1 c.put_groups-at.ensures.0 c.put_groups-at.ensures.1
+    (omega (arith, (let h : c.put_groups-at.result ≤ head_bytes = omega (arith, (let h : c.put_groups-at.result ≡ length (saved_head c.args.own (length (view c.args.t c.args.mem.now))) = rw (view-length c.args.t c.requires.0.arranged c.args.mem.now)
+    (head_end c.args.own c.args.t.count c.args.room.now c.put_groups-a.new.d c.put_groups-b.new.d c.put_groups-at.new.d c.put_groups-a.result c.put_groups-b.result c.put_groups-at.result c.put_groups-a.ensures.0 c.put_groups-a.ensures.1 c.put_groups-b.ensures.0 c.put_groups-b.ensures.1 c.put_groups-at.ensures.0 c.put_groups-at.ensures.1) in h), head_short c.args.own (length (view c.args.t c.args.mem.now)) (omega (arith, c.ranges.own)) c.requires.1.0.nodes) in h), c.requires.1.1.1))) in h) (let h : c.put_groups-at.result ≡ length (saved_head c.args.own (length (view c.args.t c.args.mem.now))) = rw (view-length c.args.t c.requires.0.arranged c.args.mem.now)
+    (head_end c.args.own c.args.t.count c.args.room.now c.put_groups-a.new.d c.put_groups-b.new.d c.put_groups-at.new.d c.put_groups-a.result c.put_groups-b.result c.put_groups-at.result c.put_groups-a.ensures.0 c.put_groups-a.ensures.1 c.put_groups-b.ensures.0 c.put_groups-b.ensures.1 c.put_groups-at.ensures.0 c.put_groups-at.ensures.1) in h) c.loop-i.invariant (rw (view-length c.args.t c.requires.0.arranged c.args.mem.now) c.loop-i-test.false)
