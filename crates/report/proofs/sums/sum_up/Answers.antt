@@ -1,5 +1,4 @@
 use mathlib.Core.Path.{refl, ◌∙◌}
-use Prim.Native.Nat.{◌-◌}
 use native.Mathlib.Omega.{arith}
 use Rattle.accounts.proofs.Sums.{meta_good}
 use Rattle.report.proofs.Adding.{behind-none, behind_then}
