@@ -1,5 +1,5 @@
 use mathlib.Core.Path.{refl, ◌∙◌}
-use Prim.Native.Nat.{◌+◌, ◌-◌}
+use Prim.Native.Nat.{◌+◌}
 use native.Mathlib.Omega.{arith}
 use mir.Syntax.{w64}
 use mir.Val.{SFits}
@@ -22,7 +22,7 @@ bounds-sums-h c = omega (arith, c.requires.0.sums, c.loop-h-test.true)
 
 pub put_household-e-requires : goal.put_household-e-requires
 put_household-e-requires c =
-    let f : SFits w64 (sum_at c.args.sums.now (c.loop-h.h + 1)) = record { sfits = c.put_household-arg-then-paid-h-1.given } in
+    let f : SFits w64 (sum_at c.args.sums.now (c.loop-h.h + 1)) = record { sfits = omega arith } in
     rw (narrow_back w64 (sum_at c.args.sums.now (c.loop-h.h + 1)) f)
     (line-fits c.args.sums.now c.args.paid.now c.args.room.now c.args.at c.loop-h.h c.loop-h.room c.loop-h.e c.loop-h.invariant.1.1 c.requires.1 (omega (arith, c.loop-h-test.true)) c.if-paid-h.true c.loop-h.invariant.1.0)
 
@@ -31,7 +31,7 @@ loop-h-smaller-then-paid-h c = omega (arith, c.loop-h-test.true)
 
 pub loop-h-preserved-then-paid-h : goal.loop-h-preserved-then-paid-h
 loop-h-preserved-then-paid-h c =
-    let f : SFits w64 (sum_at c.args.sums.now (c.loop-h.h + 1)) = record { sfits = c.put_household-arg-then-paid-h-1.given } in (
+    let f : SFits w64 (sum_at c.args.sums.now (c.loop-h.h + 1)) = record { sfits = omega arith } in (
       omega (arith, c.loop-h-test.true),
       (
         c.put_household-e.auto.room ∙ c.loop-h.invariant.1.0,

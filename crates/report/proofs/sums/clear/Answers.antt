@@ -1,5 +1,4 @@
 use mathlib.Core.Path.{refl}
-use Prim.Native.Nat.{◌-◌}
 use native.Mathlib.Omega.{arith}
 use lib.ListN.{length-set}
 use Rattle.report.proofs.Adding.{clear_none, clear_step, clear_all}
@@ -21,11 +20,10 @@ pub loop-i-smaller : goal.loop-i-smaller
 loop-i-smaller c = omega (arith, c.requires.sums, c.loop-i.invariant.0)
 
 pub loop-i-preserved : goal.loop-i-preserved
-loop-i-preserved c =
-    (
-      simp length-set c.loop-i.invariant.0,
-      (simp length-set c.loop-i.invariant.1.0, clear_step c.args.sums.now c.args.paid.now c.loop-i.sums c.loop-i.paid c.loop-i.i c.loop-i.invariant.1.1 (omega arith) (omega (arith, c.requires.sums, c.loop-i.invariant.0)) (omega (arith, c.requires.marks, c.loop-i.invariant.1.0))),
-    )
+loop-i-preserved c = (
+  simp length-set c.loop-i.invariant.0,
+  (simp length-set c.loop-i.invariant.1.0, clear_step c.args.sums.now c.args.paid.now c.loop-i.sums c.loop-i.paid c.loop-i.i c.loop-i.invariant.1.1 (omega arith) (omega (arith, c.requires.sums, c.loop-i.invariant.0)) (omega (arith, c.requires.marks, c.loop-i.invariant.1.0))),
+)
 
 pub returns : goal.returns
 returns c =

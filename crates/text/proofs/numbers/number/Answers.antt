@@ -1,5 +1,5 @@
 use mathlib.Core.Path.{sym, ◌∙◌}
-use Prim.Native.Nat.{◌-◌}
+use borrow.Author.Tests.{not-true, not-false}
 use native.Mathlib.Omega.{arith}
 use Rattle.text.proofs.Onward.{read_none, read-start, read_end, read_next, read_stop}
 use Rattle.text.proofs.numbers.number.Goals as goal
@@ -14,11 +14,11 @@ loop-i-init c =
 
 pub returns-then-not-v : goal.returns-then-not-v
 returns-then-not-v c =
-    (sym (c.loop-i.invariant.1.1 ∙ read_stop c.args.most c.loop-i.n c.args.word.now c.loop-i.i (omega arith) c.with_digit-v.result c.with_digit-v.ensures.0 c.if-not-v.true), c.with_digit-v.ensures.1)
+    (sym (c.loop-i.invariant.1.1 ∙ read_stop c.args.most c.loop-i.n c.args.word.now c.loop-i.i (omega arith) c.with_digit-v.result c.with_digit-v.ensures.0 (not-true _ c.if-not-v.true)), c.with_digit-v.ensures.1)
 
 pub loop-i-preserved : goal.loop-i-preserved
 loop-i-preserved c =
-    (omega arith, (c.with_digit-v.ensures.1, c.loop-i.invariant.1.1 ∙ read_next c.args.most c.loop-i.n c.args.word.now c.loop-i.i (omega arith) c.with_digit-v.result c.with_digit-v.ensures.0 c.if-not-v.false))
+    (omega arith, (c.with_digit-v.ensures.1, c.loop-i.invariant.1.1 ∙ read_next c.args.most c.loop-i.n c.args.word.now c.loop-i.i (omega arith) c.with_digit-v.result c.with_digit-v.ensures.0 (not-false _ c.if-not-v.false)))
 
 pub returns : goal.returns
 returns c =

@@ -17,12 +17,11 @@ pub overflow_add-i : goal.overflow_add-i
 overflow_add-i c = omega (arith, groups-some c.loop-v.v)
 
 pub loop-v-preserved : goal.loop-v-preserved
-loop-v-preserved c =
-    (
-      simp length-set c.loop-v.invariant.0,
-      omega (arith, large_length c.loop-v.v (omega arith)),
-      c.loop-v.invariant.2 ∙ rw (groups_large c.loop-v.v (omega arith)) (written_on c.loop-v.d c.loop-v.i (c.loop-v.v % 128 + 128) (groups (c.loop-v.v / 128)) (omega (arith, groups-some c.loop-v.v))),
-    )
+loop-v-preserved c = (
+  simp length-set c.loop-v.invariant.0,
+  omega (arith, large_length c.loop-v.v (omega arith)),
+  c.loop-v.invariant.2 ∙ rw (groups_large c.loop-v.v (omega arith)) (written_on c.loop-v.d c.loop-v.i (c.loop-v.v % 128 + 128) (groups (c.loop-v.v / 128)) (omega (arith, groups-some c.loop-v.v))),
+)
 
 pub bounds-d-i-2 : goal.bounds-d-i-2
 bounds-d-i-2 c = omega (arith, groups-some c.loop-v.v)
