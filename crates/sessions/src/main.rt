@@ -17,8 +17,8 @@ use console::output::{StandardOutput, all_written, has_failed, standard_output};
 use session::{first, step};
 use std::io;
 
-// Line by line to the end of the input, or to a write that fails. A proved loop has to end, and nothing says that the input does: the turns count down from a number that no run
-// uses up.
+// Line by line to the end of the input, or to a write that fails. A proved loop has to end, and nothing says that the input does: the turns count down from
+// a number that no run uses up.
 fn run(
     input: &mut StandardInput,
     out: &mut StandardOutput,
