@@ -2,7 +2,7 @@
 #include <stddef.h>
 #include <stdint.h>
 
-// Ours, from the archive that `rt staticlib sha256` writes.
+// Ours, from the archive that `tools/archive sha256` writes.
 void pingvratha_sha256(const uint8_t *m, size_t n, uint8_t out[32]);
 
 // The opponent, in sha256.c.

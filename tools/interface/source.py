@@ -90,36 +90,49 @@ def refusals():
 
 
 def orders():
-    """{call: [number]}: a call's refusals in the order of its definition; the call without underscores."""
+    """{call: [number]}: a call's refusals in the order of its definition."""
     specs = '\n'.join(read(p) for p in sorted(SPECS.glob('*.antt')))
     number = {row: int(n) for row, n in re.findall(r'^(\w+) [^=\n]*= record \{ number = (\d+);', specs, re.M)}
-    lists = re.findall(r'^refusal(\w+) [^=]*=\s+firstOf\s+\((.*?)\s∷ \[\]\)', specs, re.M | re.S)
-    return {call.lower(): [number[row.split()[0]] for row in rows.split('∷')] for call, rows in lists}
+    lists = re.findall(r'^refusal_(\w+) [^=]*=\s+first_of\s+\((.*?)\s∷ \[\]\)', specs, re.M | re.S)
+    return {call: [number[row.split()[0]] for row in rows.split('∷')] for call, rows in lists}
 
 
 def structs():
     """{name: struct}: all that have the layout of C."""
     found = {}
     for source in sorted(Path('crates').glob('*/src/*.rt')):
-        for comment, name, body in re.findall(COMMENT + r'#\[repr\(C\)\]\npub struct (\w+) \{\n((?: .*\n)*)\}', read(source)):
+        for comment, name, body in re.findall(COMMENT + r'#\[repr\(C\)\]\n(?:#\[derive\(.*\)\]\n)?pub struct (\w+) \{\n((?: .*\n)*)\}', read(source)):
             fields = [Field(uncommented(above), *rest) for above, *rest in re.findall(COMMENT + r' +pub (\w+): (.*),\n', body)]
             found[name] = Struct(uncommented(comment), name, fields)
     return found
 
 
+def exports():
+    """{name: (parameters, result)}: what the static library defines for programs in other languages."""
+    source = read('crates/ledger_c/src/lib.rt')
+    found = re.findall(r'^#\[unsafe\(no_mangle\)\]\npub extern "C" fn pingvratha_(\w+)\(([^)]*)\) -> (\w+)', source, re.M)
+    if len(found) != source.count('extern'):
+        sys.exit('crates/ledger_c/src/lib.rt exports something in another form')
+    return {name: (pairs(params), result) for name, params, result in found}
+
+
+def pairs(params):
+    return [tuple(pair.split(': ')) for pair in re.split(r',\s*', params.strip()) if pair]
+
+
 def calls(numbers):
-    """The exported calls, in the order of the modules of ledger."""
-    found, order = [], orders()
+    """The exported calls, as the library ledger has them, in the order of its modules."""
+    found, order, exported = [], orders(), exports()
     for module in re.findall(r'^pub mod (\w+);', read('crates/ledger/src/lib.rt'), re.M):
-        exported = COMMENT + r'#\[no_mangle\]\npub extern "C" fn pingvratha_(\w+)\(([^)]*)\) -> (\w+)'
-        source = read(f'crates/ledger/src/{module}.rt')
-        here = re.findall(exported, source)
-        if len(here) != source.count('extern'):
-            sys.exit(f'crates/ledger/src/{module}.rt exports something in another form')
-        for comment, name, params, result in here:
-            fields = [Field([], *pair.split(': ')) for pair in re.split(r',\s*', params.strip()) if pair]
-            refused = [numbers[n][0] for n in order[name.removesuffix('_refusal').replace('_', '')]] if fields else []
+        call = COMMENT + r'pub fn pingvratha_(\w+)\(([^)]*)\) -> (\w+)'
+        for comment, name, params, result in re.findall(call, read(f'crates/ledger/src/{module}.rt')):
+            if exported.pop(name, None) != (pairs(params), result):
+                sys.exit(f'crates/ledger_c/src/lib.rt does not export pingvratha_{name} as crates/ledger/src/{module}.rt has it')
+            fields = [Field([], *pair) for pair in pairs(params)]
+            refused = [numbers[n][0] for n in order[name.removesuffix('_refusal')]] if fields else []
             found.append(Call(uncommented(comment), name, fields, result, refused, module != 'look'))
+    if exported:
+        sys.exit(f'crates/ledger_c/src/lib.rt exports what ledger has not: {", ".join(exported)}')
     return found
 
 

@@ -21,8 +21,7 @@ const ALONE: [u8; 16] = [
 const FIRST_POINT: u64 = LEAST_INTERVAL / 2;
 
 // The state to start from, with whatever table memory: node 0, begun at reading 0 with random numbers 0.
-#[unsafe(no_mangle)]
-pub extern "C" fn pingvratha_blank() -> State
+pub fn pingvratha_blank() -> State
     ensures { Blank result }
 {
     let ours = Entry {

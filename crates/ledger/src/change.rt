@@ -9,8 +9,7 @@ use node::State;
 use node::answers::{Answer, Done, Sent};
 
 // Begins with our node alone: empty data, sequence number 0, no peers. Also over a running node and at an earlier reading; all that was held is gone.
-#[unsafe(no_mangle)]
-pub extern "C" fn pingvratha_begin(
+pub fn pingvratha_begin(
     state: State,
     memory: &[u8],
     own: u32,
@@ -32,8 +31,7 @@ pub extern "C" fn pingvratha_begin(
 
 // Goes on from a snapshot, at whatever reading. Our peers are unknown at first, so that only our own node is reachable, and our data are published anew.
 // Keep-alive intervals are USUAL_INTERVAL again.
-#[unsafe(no_mangle)]
-pub extern "C" fn pingvratha_resume(
+pub fn pingvratha_resume(
     state: State,
     memory: &mut [u8],
     snapshot: &[u8],
@@ -63,8 +61,7 @@ pub extern "C" fn pingvratha_resume(
 
 // Takes in a datagram that came on the endpoint, by unicast or else by multicast, and writes the reply to the front of the room; length 0 means that there is
 // none.
-#[unsafe(no_mangle)]
-pub extern "C" fn pingvratha_receive(
+pub fn pingvratha_receive(
     state: State,
     memory: &mut [u8],
     room: &mut [u8],
@@ -101,8 +98,7 @@ pub extern "C" fn pingvratha_receive(
 
 // Does what is due on the endpoint: removes peers that fell silent, publishes our data anew before it is too old, and writes what is to be sent to the front
 // of the room; length 0 means that there is nothing. At one reading a second and a third tick may still have something to do, a fourth never.
-#[unsafe(no_mangle)]
-pub extern "C" fn pingvratha_tick(
+pub fn pingvratha_tick(
     state: State,
     memory: &mut [u8],
     room: &mut [u8],
@@ -127,8 +123,7 @@ pub extern "C" fn pingvratha_tick(
 // Chooses the endpoint's keep-alive interval in milliseconds: when ticks of the endpoint have sent nothing for so long, and a random delay of up to MOST_DELAY, one
 // sends. Our data tell it to the peers, who remove us when they have not heard us for 2.1 times as long; unless it is USUAL_INTERVAL, as at first, it takes 12 bytes.
 // begin and resume set that one again. With ten ticks a second choose 5000 or more: with a shorter one peers may remove us though nobody is gone.
-#[unsafe(no_mangle)]
-pub extern "C" fn pingvratha_keep_alive(
+pub fn pingvratha_keep_alive(
     state: State,
     memory: &mut [u8],
     clock: u64,
@@ -158,8 +153,7 @@ pub extern "C" fn pingvratha_keep_alive(
 
 // Puts a payment, in cents, into our data, where it takes 8, 12 or 16 bytes, and publishes it. Save before anything is sent. Only the same household, receipt
 // and amount together are the same payment.
-#[unsafe(no_mangle)]
-pub extern "C" fn pingvratha_pay(
+pub fn pingvratha_pay(
     state: State,
     memory: &mut [u8],
     clock: u64,
@@ -189,8 +183,7 @@ pub extern "C" fn pingvratha_pay(
 }
 
 // Drops every node that is not reachable, its payments with it, which makes place for others. What is reachable again later comes again.
-#[unsafe(no_mangle)]
-pub extern "C" fn pingvratha_purge(
+pub fn pingvratha_purge(
     state: State,
     memory: &[u8],
     clock: u64,

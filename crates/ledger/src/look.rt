@@ -33,13 +33,7 @@ fn summed(state: State, memory: &[u8], clock: u64, w: Whose) -> Summed
 }
 
 // The total of a household over all reachable nodes.
-#[unsafe(no_mangle)]
-pub extern "C" fn pingvratha_total(
-    state: State,
-    memory: &[u8],
-    clock: u64,
-    household: u32,
-) -> Summed
+pub fn pingvratha_total(state: State, memory: &[u8], clock: u64, household: u32) -> Summed
     requires { AsLeft state memory.now }
     ensures { Totals clock household state memory.now result }
 {
@@ -63,8 +57,7 @@ pub extern "C" fn pingvratha_total(
 }
 
 // The sum over all households.
-#[unsafe(no_mangle)]
-pub extern "C" fn pingvratha_sum(state: State, memory: &[u8], clock: u64) -> Summed
+pub fn pingvratha_sum(state: State, memory: &[u8], clock: u64) -> Summed
     requires { AsLeft state memory.now }
     ensures { SumsUp clock state memory.now result }
 {
@@ -88,8 +81,7 @@ pub extern "C" fn pingvratha_sum(state: State, memory: &[u8], clock: u64) -> Sum
 }
 
 // The reachable nodes, whose payments are summed, how far they go, and the network digest.
-#[unsafe(no_mangle)]
-pub extern "C" fn pingvratha_marks(state: State, memory: &[u8], clock: u64) -> Marked
+pub fn pingvratha_marks(state: State, memory: &[u8], clock: u64) -> Marked
     requires { AsLeft state memory.now }
     ensures { Marks clock state memory.now result }
 {
@@ -118,13 +110,7 @@ pub extern "C" fn pingvratha_marks(state: State, memory: &[u8], clock: u64) -> M
 }
 
 // Writes a snapshot of all nodes held to the front of what is lent for it.
-#[unsafe(no_mangle)]
-pub extern "C" fn pingvratha_save(
-    state: State,
-    memory: &[u8],
-    snapshot: &mut [u8],
-    clock: u64,
-) -> Saved
+pub fn pingvratha_save(state: State, memory: &[u8], snapshot: &mut [u8], clock: u64) -> Saved
     requires { AsLeft state memory.now }
     ensures { Saves clock state memory.now snapshot.old result snapshot.new }
 {
@@ -137,8 +123,7 @@ pub extern "C" fn pingvratha_save(
 }
 
 // Where a node's data stand in the table memory, reachable or not. Length 0 for empty data, and for a refusal, whose number show_refusal gives.
-#[unsafe(no_mangle)]
-pub extern "C" fn pingvratha_show(state: State, memory: &[u8], node: u32) -> Extent
+pub fn pingvratha_show(state: State, memory: &[u8], node: u32) -> Extent
     requires { AsLeft state memory.now }
     ensures { Shows node state memory.now result }
 {
@@ -166,8 +151,7 @@ pub extern "C" fn pingvratha_show(state: State, memory: &[u8], node: u32) -> Ext
 }
 
 // The number of show with the same arguments; 0 where the data are shown.
-#[unsafe(no_mangle)]
-pub extern "C" fn pingvratha_show_refusal(state: State, memory: &[u8], node: u32) -> u32
+pub fn pingvratha_show_refusal(state: State, memory: &[u8], node: u32) -> u32
     requires { AsLeft state memory.now }
     ensures { ShowRefuses node state memory.now result }
 {

@@ -5,7 +5,8 @@ ghost use Rattle.table.specs.View.{FitMeta, Arranged};
 ghost use Rattle.node.specs.View.{PeersRep};
 
 use console::output::{
-    end, labelled, labelled_bytes, labelled_each, labelled_size, labelled_word, write,
+    StandardOutput, end, labelled, labelled_bytes, labelled_each, labelled_size, labelled_word,
+    write,
 };
 use model::figures::MOST_ENDPOINTS;
 use node::peers::{Peer, Peers};
@@ -13,45 +14,45 @@ use node::{Endpoint, State};
 use table::{Entry, Table, bytes_of, meta_at};
 
 // A node with its data.
-fn node(e: Entry, mem: &[u8])
+fn node(out: &mut StandardOutput, e: Entry, mem: &[u8])
     requires { FitMeta e × (table_bytes ≤ length mem.now) }
 {
-    labelled_word(b"node id=", e.id);
-    labelled_word(b" seq=", e.seq);
-    labelled_word(b" age=", e.age);
-    labelled(b" since=", e.since);
-    labelled_bytes(b" data=", bytes_of(e, mem));
-    write(b"\n");
+    labelled_word(out, b"node id=", e.id);
+    labelled_word(out, b" seq=", e.seq);
+    labelled_word(out, b" age=", e.age);
+    labelled(out, b" since=", e.since);
+    labelled_bytes(out, b" data=", bytes_of(e, mem));
+    write(out, b"\n");
 }
 
 // All nodes, ascending.
-fn nodes(t: Table, mem: &[u8])
+fn nodes(out: &mut StandardOutput, t: Table, mem: &[u8])
     requires { Arranged t × (table_bytes ≤ length mem.now) }
 {
     let count = t.count;
     let mut i = 0;
     while i < count {
-        node(meta_at(t, i), mem);
+        node(out, meta_at(t, i), mem);
         i += 1;
     }
 }
 
 // A peer.
-fn peer(p: Peer) {
+fn peer(out: &mut StandardOutput, p: Peer) {
     let numbers = [p.node as u64, p.theirs as u64, p.ours as u64, p.contact];
-    write(b"peer");
-    labelled_each(b"node= theirs= ours= contact=", &numbers);
-    end();
+    write(out, b"peer");
+    labelled_each(out, b"node= theirs= ours= contact=", &numbers);
+    end(out);
 }
 
 // All peers, in the order in which they came.
-fn peers(p: Peers)
+fn peers(out: &mut StandardOutput, p: Peers)
     requires { PeersRep p }
 {
     let count = p.count;
     let mut i = 0;
     while i < count {
-        peer(p.list[i]);
+        peer(out, p.list[i]);
         i += 1;
     }
 }
@@ -62,7 +63,7 @@ fn bit(b: bool) -> u64 {
 }
 
 // An endpoint.
-fn endpoint(number: usize, e: Endpoint) {
+fn endpoint(out: &mut StandardOutput, number: usize, e: Endpoint) {
     let t = e.trickle;
     let numbers = [
         t.start,
@@ -74,34 +75,35 @@ fn endpoint(number: usize, e: Endpoint) {
         e.keep as u64,
         e.quiet,
     ];
-    labelled_size(b"endpoint ", number);
+    labelled_size(out, b"endpoint ", number);
     labelled_each(
+        out,
         b"start= point= interval= count= spent= next= keep= quiet=",
         &numbers,
     );
-    end();
+    end(out);
 }
 
 // All endpoints.
-fn endpoints(es: [Endpoint; MOST_ENDPOINTS]) {
+fn endpoints(out: &mut StandardOutput, es: [Endpoint; MOST_ENDPOINTS]) {
     let mut i = 0;
     while i < MOST_ENDPOINTS {
-        endpoint(i + 1, es[i]);
+        endpoint(out, i + 1, es[i]);
         i += 1;
     }
 }
 
 // The whole state.
-pub fn state(s: State, mem: &[u8])
+pub fn state(out: &mut StandardOutput, s: State, mem: &[u8])
     requires { Arranged s.table × (PeersRep s.peers × (table_bytes ≤ length mem.now)) }
 {
-    labelled_word(b"state own=", s.own);
-    labelled(b" last=", s.last);
+    labelled_word(out, b"state own=", s.own);
+    labelled(out, b" last=", s.last);
     let digest = s.digest;
-    labelled_bytes(b" digest=", &digest);
-    end();
-    nodes(s.table, mem);
-    peers(s.peers);
+    labelled_bytes(out, b" digest=", &digest);
+    end(out);
+    nodes(out, s.table, mem);
+    peers(out, s.peers);
     let es = s.endpoints;
-    endpoints(es);
+    endpoints(out, es);
 }

@@ -1,7 +1,8 @@
 // The line `totals`: what the program of that name prints for a snapshot.
 ghost use Rattle.std.specs.Prelude.{◌≡◌, length};
 
-use console::output::write;
+use console::input::large_buffer;
+use console::output::{StandardOutput, write};
 use report::sums::HOUSEHOLDS;
 
 // A sum for each household.
@@ -18,11 +19,11 @@ fn marks_buffer() -> [bool; HOUSEHOLDS]
     [false; HOUSEHOLDS]
 }
 
-pub fn totals(bytes: &[u8]) {
-    let mut mem = io::large_buffer();
+pub fn totals(out: &mut StandardOutput, bytes: &[u8]) {
+    let mut mem = large_buffer();
     let mut sums = sums_buffer();
     let mut paid = marks_buffer();
     let mut room = console::input::window_buffer();
     let n = report::report(bytes, &mut mem, &mut sums, &mut paid, &mut room);
-    write(&room[..n]);
+    write(out, &room[..n]);
 }

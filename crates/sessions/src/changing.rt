@@ -3,7 +3,8 @@ ghost use Rattle.std.specs.Prelude.{◌≤◌};
 ghost use Rattle.ledger.specs.Promises.{AsLeft};
 ghost use Rattle.sessions.specs.Kept.{Goes};
 
-use console::output::{line, line_of_bytes};
+use console::input::large_buffer;
+use console::output::{StandardOutput, line, line_of_bytes};
 use ledger::change;
 use listing::answers;
 use node::State;
@@ -11,42 +12,62 @@ use text::forms::{four, small};
 use wire::payment::unfold;
 
 // Our node alone.
-fn begin(s: State, mem: &[u8], v: [u64; 8]) -> State
+fn begin(out: &mut StandardOutput, s: State, mem: &[u8], v: [u64; 8]) -> State
     requires { AsLeft s mem.now }
     ensures { Goes s mem.now result mem.now }
 {
     let a = change::pingvratha_begin(s, mem, small(v[0]), v[1], &four(v, 2));
-    line(b"begin ", a.number);
+    line(out, b"begin ", a.number);
     a.state
 }
 
 // The node of a snapshot.
-fn resume_from(s: State, mem: &mut [u8], bytes: &[u8], v: [u64; 8]) -> State
+fn resume_from(
+    out: &mut StandardOutput,
+    s: State,
+    mem: &mut [u8],
+    bytes: &[u8],
+    v: [u64; 8],
+) -> State
     requires { AsLeft s mem.old }
     ensures { Goes s mem.old result mem.new }
 {
     let a = change::pingvratha_resume(s, mem, bytes, v[0], &four(v, 1));
-    line(b"resume ", a.number);
+    line(out, b"resume ", a.number);
     a.state
 }
 
 // The snapshot is what the line gives, or the last accepted save.
-fn resume(s: State, mem: &mut [u8], saved: &[u8], bytes: &[u8], v: [u64; 8]) -> State
+fn resume(
+    out: &mut StandardOutput,
+    s: State,
+    mem: &mut [u8],
+    saved: &[u8],
+    bytes: &[u8],
+    v: [u64; 8],
+) -> State
     requires { AsLeft s mem.old }
     ensures { Goes s mem.old result mem.new }
 {
     if v[5] == 1 {
-        return resume_from(s, mem, saved, v);
+        return resume_from(out, s, mem, saved, v);
     }
-    resume_from(s, mem, bytes, v)
+    resume_from(out, s, mem, bytes, v)
 }
 
 // A datagram came in.
-fn receive(s: State, mem: &mut [u8], reply: usize, datagram: &[u8], v: [u64; 8]) -> State
+fn receive(
+    out: &mut StandardOutput,
+    s: State,
+    mem: &mut [u8],
+    reply: usize,
+    datagram: &[u8],
+    v: [u64; 8],
+) -> State
     requires { AsLeft s mem.old × (reply ≤ 5000) }
     ensures { Goes s mem.old result mem.new }
 {
-    let mut room = io::large_buffer();
+    let mut room = large_buffer();
     let a = change::pingvratha_receive(
         s,
         mem,
@@ -58,55 +79,56 @@ fn receive(s: State, mem: &mut [u8], reply: usize, datagram: &[u8], v: [u64; 8])
         &four(v, 3),
     );
     let n = a.length;
-    answers::received(a.number, a.omitted, a.dropped, &room[..n]);
+    answers::received(out, a.number, a.omitted, a.dropped, &room[..n]);
     a.state
 }
 
 // An endpoint's time.
-fn tick(s: State, mem: &mut [u8], reply: usize, v: [u64; 8]) -> State
+fn tick(out: &mut StandardOutput, s: State, mem: &mut [u8], reply: usize, v: [u64; 8]) -> State
     requires { AsLeft s mem.old × (reply ≤ 5000) }
     ensures { Goes s mem.old result mem.new }
 {
-    let mut room = io::large_buffer();
+    let mut room = large_buffer();
     let a = change::pingvratha_tick(s, mem, &mut room[..reply], v[0], small(v[1]), &four(v, 2));
     let n = a.length;
-    line_of_bytes(b"tick ", a.number, &room[..n]);
+    line_of_bytes(out, b"tick ", a.number, &room[..n]);
     a.state
 }
 
 // The keep-alive interval of an endpoint.
-fn keep_alive(s: State, mem: &mut [u8], v: [u64; 8]) -> State
+fn keep_alive(out: &mut StandardOutput, s: State, mem: &mut [u8], v: [u64; 8]) -> State
     requires { AsLeft s mem.old }
     ensures { Goes s mem.old result mem.new }
 {
     let a = change::pingvratha_keep_alive(s, mem, v[0], small(v[1]), small(v[2]), &four(v, 3));
-    line(b"keep-alive ", a.number);
+    line(out, b"keep-alive ", a.number);
     a.state
 }
 
 // A payment of our own.
-fn pay(s: State, mem: &mut [u8], v: [u64; 8]) -> State
+fn pay(out: &mut StandardOutput, s: State, mem: &mut [u8], v: [u64; 8]) -> State
     requires { AsLeft s mem.old }
     ensures { Goes s mem.old result mem.new }
 {
     let amount = unfold(small(v[3]));
     let a = change::pingvratha_pay(s, mem, v[0], small(v[1]), small(v[2]), amount, &four(v, 4));
-    line(b"pay ", a.number);
+    line(out, b"pay ", a.number);
     a.state
 }
 
 // Only the reachable nodes stay.
-fn purge(s: State, mem: &[u8], v: [u64; 8]) -> State
+fn purge(out: &mut StandardOutput, s: State, mem: &[u8], v: [u64; 8]) -> State
     requires { AsLeft s mem.now }
     ensures { Goes s mem.now result mem.now }
 {
     let a = change::pingvratha_purge(s, mem, v[0], &four(v, 1));
-    line(b"purge ", a.number);
+    line(out, b"purge ", a.number);
     a.state
 }
 
 // The call of the line, by the place of its name: begin, resume, receive, tick, keep-alive, pay, purge.
 pub fn change(
+    out: &mut StandardOutput,
     which: usize,
     s: State,
     mem: &mut [u8],
@@ -119,12 +141,12 @@ pub fn change(
     ensures { Goes s mem.old result mem.new }
 {
     match which {
-        0 => begin(s, mem, v),
-        1 => resume(s, mem, saved, bytes, v),
-        2 => receive(s, mem, reply, bytes, v),
-        3 => tick(s, mem, reply, v),
-        4 => keep_alive(s, mem, v),
-        5 => pay(s, mem, v),
-        _ => purge(s, mem, v),
+        0 => begin(out, s, mem, v),
+        1 => resume(out, s, mem, saved, bytes, v),
+        2 => receive(out, s, mem, reply, bytes, v),
+        3 => tick(out, s, mem, reply, v),
+        4 => keep_alive(out, s, mem, v),
+        5 => pay(out, s, mem, v),
+        _ => purge(out, s, mem, v),
     }
 }

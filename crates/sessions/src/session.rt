@@ -7,7 +7,8 @@ use crate::book::totals;
 use crate::changing::change;
 use crate::showing::{save, tell};
 use base::memory::copy;
-use console::output::write;
+use console::input::large_buffer;
+use console::output::{StandardOutput, write};
 use ledger::blank::pingvratha_blank;
 use listing::states::state;
 use model::figures::{MOST_BYTES, SNAPSHOT_BYTES, TABLE_BYTES};
@@ -61,11 +62,11 @@ fn are_rooms(table: u64, reply: u64, snapshot: u64) -> bool
 }
 
 // The lengths of what is lent.
-fn rooms(x: Session, v: [u64; 8]) -> Session
+fn rooms(out: &mut StandardOutput, x: Session, v: [u64; 8]) -> Session
     ensures { (m k : List ℕ) → Running x m k → Running result m k }
 {
     if !are_rooms(v[0], v[1], v[2]) {
-        write(b"bad line\n");
+        write(out, b"bad line\n");
         return x;
     }
     let mut r = x;
@@ -76,14 +77,14 @@ fn rooms(x: Session, v: [u64; 8]) -> Session
 }
 
 // An accepted save is kept.
-fn saving(x: Session, mem: &[u8], saved: &mut [u8], clock: u64) -> Session
+fn saving(out: &mut StandardOutput, x: Session, mem: &[u8], saved: &mut [u8], clock: u64) -> Session
     requires { Running x mem.now saved.old }
     ensures { Running result mem.now saved.new }
 {
-    let mut room = io::large_buffer();
+    let mut room = large_buffer();
     let t = x.table;
     let q = x.snapshot;
-    let a = save(x.state, &mem[..t], &mut room[..q], clock);
+    let a = save(out, x.state, &mem[..t], &mut room[..q], clock);
     if a.number != 0 {
         return x;
     }
@@ -105,23 +106,30 @@ fn said(line: &mut [u8]) -> Line
 }
 
 // One line.
-pub fn step(x: Session, mem: &mut [u8], saved: &mut [u8], line: &mut [u8]) -> Session
+pub fn step(
+    out: &mut StandardOutput,
+    x: Session,
+    mem: &mut [u8],
+    saved: &mut [u8],
+    line: &mut [u8],
+) -> Session
     requires { Running x mem.old saved.old }
     ensures { Running result mem.new saved.new }
 {
     let l = said(line);
     if !l.ok {
-        write(b"bad line\n");
+        write(out, b"bad line\n");
         return x;
     }
     let start = l.start;
     let end = l.end;
     let v = l.values;
-    run(l.which, x, mem, saved, &line[start..end], v)
+    run(out, l.which, x, mem, saved, &line[start..end], v)
 }
 
 // The line at the place `which` among the names.
 fn run(
+    out: &mut StandardOutput,
     which: usize,
     x: Session,
     mem: &mut [u8],
@@ -136,6 +144,7 @@ fn run(
     if which < CHANGING {
         let n = x.saved;
         let s = change(
+            out,
             which,
             x.state,
             &mut mem[..t],
@@ -149,26 +158,34 @@ fn run(
         return r;
     }
     if which == SAVE {
-        return saving(x, mem, saved, v[0]);
+        return saving(out, x, mem, saved, v[0]);
     }
     if which < PRINTING {
-        return rooms(x, v);
+        return rooms(out, x, v);
     }
-    print(which, x.state, mem, t, bytes, v);
+    print(out, which, x.state, mem, t, bytes, v);
     x
 }
 
 // A line that prints alone: calls are lent the first t bytes of the table memory.
-fn print(which: usize, s: State, mem: &[u8], t: usize, bytes: &[u8], v: [u64; 8])
+fn print(
+    out: &mut StandardOutput,
+    which: usize,
+    s: State,
+    mem: &[u8],
+    t: usize,
+    bytes: &[u8],
+    v: [u64; 8],
+)
     requires { AsLeft s mem.now × ((t ≤ length mem.now) × (40000 ≤ length mem.now)) }
 {
     if which < STATE {
-        tell(which, s, &mem[..t], v);
+        tell(out, which, s, &mem[..t], v);
         return;
     }
     if which == STATE {
-        state(s, mem);
+        state(out, s, mem);
         return;
     }
-    totals(bytes);
+    totals(out, bytes);
 }

@@ -58,16 +58,14 @@ pub fn hash16(m: &[u8]) -> [u8; 16]
 }
 
 // The SHA-256 of m for programs in other languages.
-#[unsafe(no_mangle)]
-pub extern "C" fn pingvratha_sha256(m: &[u8], out: &mut [u8; 32])
+pub fn pingvratha_sha256(m: &[u8], out: &mut [u8; 32])
     ensures { out.new ≡ sha256 m.now }
 {
     *out = digest(m);
 }
 
 // The ledger's H of m for programs in other languages.
-#[unsafe(no_mangle)]
-pub extern "C" fn pingvratha_hash16(m: &[u8], out: &mut [u8; 16])
+pub fn pingvratha_hash16(m: &[u8], out: &mut [u8; 16])
     ensures { out.new ≡ hash16 m.now }
 {
     *out = hash16(m);

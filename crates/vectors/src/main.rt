@@ -1,37 +1,42 @@
 // Writes SHA-256 digests in hexadecimal, a line each: of the example messages of FIPS 180-4, then of messages of many lengths.
 #![tactic(auto)]
 
-ghost use Rattle.std.specs.Prelude.{◌≤◌, length};
+ghost use Rattle.std.specs.Prelude.{◌≡◌, ◌≤◌, length};
 
-use libc::STDOUT_FILENO;
+use std::io::{Result, Stdout};
 
 fn wide(x: u8) -> u64 {
     x as u64
 }
 
 // A digest as a line of hexadecimal digits.
-fn print(d: &[u8]) {
+fn print(out: Stdout, d: &[u8]) -> Result<()> {
     let mut i = 0;
     while i < d.len() {
-        io::print_hex(STDOUT_FILENO, wide(d[i]), 2);
+        let byte = wide(d[i]);
+        print!(out; "{byte:02x}")?;
         i += 1;
     }
-    io::write_all(STDOUT_FILENO, b"\n");
+    out.write_all(b"\n")
 }
 
-fn show(m: &[u8]) {
+fn show(out: Stdout, m: &[u8]) -> Result<()> {
     let d = sha256::digest(m);
-    print(&d);
+    print(out, &d)
 }
 
 // The example messages, of 3, 56, 112 and 0 bytes.
-fn show_examples() {
-    show(b"abc");
-    show(b"abcdbcdecdefdefgefghfghighijhijkijkljklmklmnlmnomnopnopq");
+fn show_examples(out: Stdout) -> Result<()> {
+    show(out, b"abc")?;
     show(
+        out,
+        b"abcdbcdecdefdefgefghfghighijhijkijkljklmklmnlmnomnopnopq",
+    )?;
+    show(
+        out,
         b"abcdefghbcdefghicdefghijdefghijkefghijklfghijklmghijklmnhijklmnoijklmnopjklmnopqklmnopqrlmnopqrsmnopqrstnopqrstu",
-    );
-    show(b"");
+    )?;
+    show(out, b"")
 }
 
 // Byte i becomes i mod 251.
@@ -44,22 +49,31 @@ fn fill(d: &mut [u8]) {
 }
 
 // The first n bytes of m, for each n from `first` to `last`.
-fn show_lengths(m: &[u8], first: usize, last: usize)
+fn show_lengths(out: Stdout, m: &[u8], first: usize, last: usize) -> Result<()>
     requires { (first ≤ last) × (last ≤ length m.now) }
 {
     let mut n = first;
     while n <= last {
-        show(&m[..n]);
+        show(out, &m[..n])?;
         n += 1;
     }
+    Ok(())
 }
 
-fn main() {
-    show_examples();
-    let mut buffer = io::large_buffer();
-    fill(&mut buffer);
-    show_lengths(&buffer, 0, 130);
-    show_lengths(&buffer, 1023, 1025);
-    show_lengths(&buffer, 4095, 4096);
-    show(&buffer);
+// 65,536 zeros.
+fn buffer() -> [u8; 65536]
+    ensures { 65536 ≡ length result }
+{
+    [0; 65536]
+}
+
+fn main(rt: HostRuntime) -> Result<()> {
+    let out = rt.stdout();
+    show_examples(out)?;
+    let mut bytes = buffer();
+    fill(&mut bytes);
+    show_lengths(out, &bytes, 0, 130)?;
+    show_lengths(out, &bytes, 1023, 1025)?;
+    show_lengths(out, &bytes, 4095, 4096)?;
+    show(out, &bytes)
 }
