@@ -16,13 +16,12 @@ returns-then-is_peer c =
     (sym c.is_peer.ensures ∙ c.if-is_peer.true))
 
 pub loop-i-preserved : goal.loop-i-preserved
-loop-i-preserved c =
-    (
-      omega arith,
-      c.loop-i.invariant.1
-          ∙ known_on (is_peer c.args.node c.args.theirs c.args.ours) c.args.p c.requires c.loop-i.i _ (omega arith)
-          (sym c.is_peer.ensures ∙ c.if-is_peer.false),
-    )
+loop-i-preserved c = (
+  omega arith,
+  c.loop-i.invariant.1
+      ∙ known_on (is_peer c.args.node c.args.theirs c.args.ours) c.args.p c.requires c.loop-i.i _ (omega arith)
+      (sym c.is_peer.ensures ∙ c.if-is_peer.false),
+)
 
 pub returns : goal.returns
 returns c =

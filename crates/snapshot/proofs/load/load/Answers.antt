@@ -17,17 +17,16 @@ returns-then-not-is_whole c =
     (judged_no c.args.clock c.args.s.now c.in-Head.own c.in-Head.count c.in-Head.next (head_told c.args.s.now c.head_of-head.result c.head_of-head.ensures c.in-Head.own c.in-Head.count c.in-Head.next c.in-Head.is) c.is_whole.result c.is_whole.ensures c.if-not-is_whole.true)
 
 pub fill-requires : goal.fill-requires
-fill-requires c =
+fill-requires c = (
+  (head_told c.args.s.now c.head_of-head.result c.head_of-head.ensures c.in-Head.own c.in-Head.count c.in-Head.next c.in-Head.is).within,
+  (
+    (head_told c.args.s.now c.head_of-head.result c.head_of-head.ensures c.in-Head.own c.in-Head.count c.in-Head.next c.in-Head.is).few,
     (
-      (head_told c.args.s.now c.head_of-head.result c.head_of-head.ensures c.in-Head.own c.in-Head.count c.in-Head.next c.in-Head.is).within,
-      (
-        (head_told c.args.s.now c.head_of-head.result c.head_of-head.ensures c.in-Head.own c.in-Head.count c.in-Head.next c.in-Head.is).few,
-        (
-          c.requires,
-          judged_yes c.args.clock c.args.s.now c.in-Head.own c.in-Head.count c.in-Head.next (head_told c.args.s.now c.head_of-head.result c.head_of-head.ensures c.in-Head.own c.in-Head.count c.in-Head.next c.in-Head.is) c.is_whole.result c.is_whole.ensures c.if-not-is_whole.false,
-        ),
-      ),
-    )
+      c.requires,
+      judged_yes c.args.clock c.args.s.now c.in-Head.own c.in-Head.count c.in-Head.next (head_told c.args.s.now c.head_of-head.result c.head_of-head.ensures c.in-Head.own c.in-Head.count c.in-Head.next c.in-Head.is) c.is_whole.result c.is_whole.ensures c.if-not-is_whole.false,
+    ),
+  ),
+)
 
 pub returns : goal.returns
 returns c =
