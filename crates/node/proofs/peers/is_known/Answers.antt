@@ -1,6 +1,5 @@
 use native.Mathlib.Omega.{arith}
 use mathlib.Core.Path.{sym, ◌∙◌}
-use Prim.Native.Nat.{◌-◌}
 use Rattle.model.specs.State.{is_peer}
 use Rattle.node.proofs.Contacts.{known_start, known-here, known_on, known_end}
 use Rattle.node.proofs.peers.is_known.Goals as goal
@@ -16,13 +15,12 @@ returns-then-is_peer c =
     (sym c.is_peer.ensures ∙ c.if-is_peer.true))
 
 pub loop-i-preserved : goal.loop-i-preserved
-loop-i-preserved c =
-    (
-      omega arith,
-      c.loop-i.invariant.1
-          ∙ known_on (is_peer c.args.node c.args.theirs c.args.ours) c.args.p c.requires c.loop-i.i _ (omega arith)
-          (sym c.is_peer.ensures ∙ c.if-is_peer.false),
-    )
+loop-i-preserved c = (
+  omega arith,
+  c.loop-i.invariant.1
+      ∙ known_on (is_peer c.args.node c.args.theirs c.args.ours) c.args.p c.requires c.loop-i.i _ (omega arith)
+      (sym c.is_peer.ensures ∙ c.if-is_peer.false),
+)
 
 pub returns : goal.returns
 returns c =

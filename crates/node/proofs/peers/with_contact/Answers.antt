@@ -1,6 +1,5 @@
 use native.Mathlib.Omega.{arith}
 use mathlib.Core.Path.{refl, ◌∙◌}
-use Prim.Native.Nat.{◌-◌}
 use Rattle.model.specs.State.{contacted}
 use Rattle.node.specs.View.{peers_of}
 use Rattle.node.proofs.Contacts.{done_next, done_end, peers_set_rep, peers-length}
@@ -10,14 +9,13 @@ pub loop-i-init : goal.loop-i-init
 loop-i-init c = (omega arith, refl, c.requires, refl)
 
 pub loop-i-preserved : goal.loop-i-preserved
-loop-i-preserved c =
-    (
-      omega arith,
-      c.loop-i.invariant.1,
-      peers_set_rep c.loop-i.r c.loop-i.i c.loop-i.r.count c.contacted.result c.loop-i.invariant.2 c.loop-i.invariant.2.few,
-      done_next (contacted c.args.node c.args.theirs c.args.ours c.args.clock) c.args.p c.loop-i.r c.loop-i.i c.contacted.result _
-          c.requires c.loop-i.invariant.1 (omega arith) c.loop-i.invariant.3 c.contacted.ensures,
-    )
+loop-i-preserved c = (
+  omega arith,
+  c.loop-i.invariant.1,
+  peers_set_rep c.loop-i.r c.loop-i.i c.loop-i.r.count c.contacted.result c.loop-i.invariant.2 c.loop-i.invariant.2.few,
+  done_next (contacted c.args.node c.args.theirs c.args.ours c.args.clock) c.args.p c.loop-i.r c.loop-i.i c.contacted.result _
+      c.requires c.loop-i.invariant.1 (omega arith) c.loop-i.invariant.3 c.contacted.ensures,
+)
 
 pub returns : goal.returns
 returns c =

@@ -1,6 +1,6 @@
 use borrow.Author.Rules.{rules}
 use native.Mathlib.Omega.{arith}
-use Prim.Native.Nat.{◌-◌, ◌<◌}
+use Prim.Native.Nat.{◌<◌}
 use mathlib.Core.Path.{sym, ap, ◌∙◌}
 use lib.ListN.{length}
 use lib.Seq.{length-take-le}
@@ -25,7 +25,7 @@ loop-i-preserved c =
     let l : c.loop-i.i < length (live c.args.t) = rw (live-length c.args.t c.requires) (omega arith) in (
       omega arith,
       elim c.if-marks-i.branch [
-          then-marks-i b ↦ rw b.n-is (gather_on c.args.marks (live c.args.t) c.loop-i.d c.loop-i.n c.loop-i.i c.loop-i.invariant.1 l b.meta_at.result c.if-marks-i.d b.if-marks-i.true (omega (arith, c.requires.most)) (read_live c.args.t c.loop-i.i b.meta_at.result (omega arith) b.meta_at.ensures) (search rules) (b.d-is ∙ b.put_part.ensures))
+        | then-marks-i b ↦ rw b.n-is (gather_on c.args.marks (live c.args.t) c.loop-i.d c.loop-i.n c.loop-i.i c.loop-i.invariant.1 l b.meta_at.result c.if-marks-i.d b.if-marks-i.true (omega (arith, c.requires.most)) (read_live c.args.t c.loop-i.i b.meta_at.result (omega arith) b.meta_at.ensures) (search rules) (b.d-is ∙ b.put_part.ensures))
         | else-marks-i b ↦ rw (b.d-is, b.n-is) (gather-stay c.args.marks (live c.args.t) c.loop-i.d c.loop-i.n c.loop-i.i c.loop-i.invariant.1 l b.if-marks-i.false)
       ],
     )

@@ -1,7 +1,5 @@
 use native.Mathlib.Omega.{arith}
-use Prim.Native.Nat.{◌-◌}
 use mathlib.Core.Path.{refl, sym, ◌∙◌}
-use mathlib.Core.Bool.{true, false}
 use Rattle.wire.specs.Row.{tlvs}
 use Rattle.reach.specs.Marks.{link_in}
 use Rattle.reach.proofs.Links.{long_enough, joins_paired, unnamed_on, unmatched_on, paired_here, paired_end, answer_on, answer-here, answer_end}
@@ -34,39 +32,36 @@ pub loop-j-smaller : goal.loop-j-smaller
 loop-j-smaller c = omega (arith, c.tlv_at-k.ensures.onward, c.tlv_at-k.ensures.within)
 
 pub loop-j-preserved : goal.loop-j-preserved
-loop-j-preserved c =
-    (
-      c.tlv_at-k.ensures.within,
-      c.tlv_at-k.ensures.again,
-      c.loop-j.invariant.2,
-      c.loop-j.invariant.3 ∙ answer_on c.args.r c.args.n (link_in c.link_at-l.result) c.args.y.now c.loop-j.j c.tlv_at-k.result c.tlv_at-k.ensures c.is_answer.ensures c.if-is_answer.false,
-    )
+loop-j-preserved c = (
+  c.tlv_at-k.ensures.within,
+  c.tlv_at-k.ensures.again,
+  c.loop-j.invariant.2,
+  c.loop-j.invariant.3 ∙ answer_on c.args.r c.args.n (link_in c.link_at-l.result) c.args.y.now c.loop-j.j c.tlv_at-k.result c.tlv_at-k.ensures c.is_answer.ensures c.if-is_answer.false,
+)
 
 pub search-smaller-after-loop-j : goal.search-smaller-after-loop-j
 search-smaller-after-loop-j c = omega (arith, c.tlv_at-h.ensures.onward, c.tlv_at-h.ensures.within)
 
 pub search-preserved-after-loop-j : goal.search-preserved-after-loop-j
-search-preserved-after-loop-j c =
-    (
-      c.tlv_at-h.ensures.within,
-      c.tlv_at-h.ensures.again,
-      c.loop-j.invariant.2,
-      c.search.invariant.3
-          ∙ unmatched_on c.args.r c.args.n c.args.x.now c.search.i c.tlv_at-h.result c.tlv_at-h.ensures (tlvs c.args.y.now) (link_in c.link_at-l.result) c.link_at-l.ensures
-          (c.loop-j.invariant.3 ∙ answer_end c.args.r c.args.n (link_in c.link_at-l.result) c.args.y.now c.loop-j.j (omega arith)),
-    )
+search-preserved-after-loop-j c = (
+  c.tlv_at-h.ensures.within,
+  c.tlv_at-h.ensures.again,
+  c.loop-j.invariant.2,
+  c.search.invariant.3
+      ∙ unmatched_on c.args.r c.args.n c.args.x.now c.search.i c.tlv_at-h.result c.tlv_at-h.ensures (tlvs c.args.y.now) (link_in c.link_at-l.result) c.link_at-l.ensures
+      (c.loop-j.invariant.3 ∙ answer_end c.args.r c.args.n (link_in c.link_at-l.result) c.args.y.now c.loop-j.j (omega arith)),
+)
 
 pub search-smaller : goal.search-smaller
 search-smaller c = omega (arith, c.tlv_at-h.ensures.onward, c.tlv_at-h.ensures.within)
 
 pub search-preserved : goal.search-preserved
-search-preserved c =
-    (
-      c.tlv_at-h.ensures.within,
-      c.tlv_at-h.ensures.again,
-      c.search.invariant.2,
-      c.search.invariant.3 ∙ unnamed_on c.args.r c.args.n c.args.x.now c.search.i c.tlv_at-h.result c.tlv_at-h.ensures (tlvs c.args.y.now) c.is_naming.ensures c.if-is_naming.false,
-    )
+search-preserved c = (
+  c.tlv_at-h.ensures.within,
+  c.tlv_at-h.ensures.again,
+  c.search.invariant.2,
+  c.search.invariant.3 ∙ unnamed_on c.args.r c.args.n c.args.x.now c.search.i c.tlv_at-h.result c.tlv_at-h.ensures (tlvs c.args.y.now) c.is_naming.ensures c.if-is_naming.false,
+)
 
 pub returns-after-search : goal.returns-after-search
 returns-after-search c =

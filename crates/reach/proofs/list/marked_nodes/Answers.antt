@@ -1,6 +1,6 @@
 use borrow.Author.Rules.{rules}
 use mathlib.Core.Path.{refl}
-use Prim.Native.Nat.{◌-◌, ◌<◌}
+use Prim.Native.Nat.{◌<◌}
 use native.Mathlib.Omega.{arith}
 use lib.ListN.{length}
 use Rattle.table.specs.View.{live}
@@ -29,7 +29,7 @@ loop-i-preserved c =
     let l : c.loop-i.i < length (live c.args.t) = rw (live-length c.args.t c.requires) (omega arith) in (
       omega arith,
       elim c.if-marks-i.branch [
-          then-marks-i b ↦ rw b.n-is (list_on c.args.marks (live c.args.t) c.loop-i.list c.loop-i.n c.loop-i.i c.loop-i.invariant.1 l b.meta_at-e.result c.if-marks-i.list b.if-marks-i.true (omega (arith, c.requires.most)) (read_live c.args.t c.loop-i.i b.meta_at-e.result (omega arith) b.meta_at-e.ensures) b.list-is)
+        | then-marks-i b ↦ rw b.n-is (list_on c.args.marks (live c.args.t) c.loop-i.list c.loop-i.n c.loop-i.i c.loop-i.invariant.1 l b.meta_at-e.result c.if-marks-i.list b.if-marks-i.true (omega (arith, c.requires.most)) (read_live c.args.t c.loop-i.i b.meta_at-e.result (omega arith) b.meta_at-e.ensures) b.list-is)
         | else-marks-i b ↦ rw (b.list-is, b.n-is) (list-stay c.args.marks (live c.args.t) c.loop-i.list c.loop-i.n c.loop-i.i c.loop-i.invariant.1 l b.if-marks-i.false)
       ],
     )

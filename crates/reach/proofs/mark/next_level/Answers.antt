@@ -1,5 +1,4 @@
 use native.Mathlib.Omega.{arith}
-use Prim.Native.Nat.{◌-◌}
 use mathlib.Core.Path.{sym, ap, ◌∙◌}
 use mathlib.Core.Bool.{not}
 use Rattle.table.proofs.Tables.{view-length}
@@ -28,8 +27,8 @@ loop-v-preserved c =
     let at = leads_at_lem c.args.clock c.args.t c.args.mem.now c.requires c.loop-r.r c.loop-v.v c.loop-r-test.true c.loop-v-test.true in (
       omega arith,
       elim c.if-not-met-v.branch [
-          then-not-met-v+then-is_leading b ↦ rw b.next-is
-          (trying_led _ _ _ _ c.loop-r.r p c.if-level-r.true c.loop-v.v q c.loop-v.next c.loop-v.invariant.1 (few-nodes c.args.t c.args.mem.now c.requires.kept.arranged) (ap not b.if-not-met-v.true) (sym at ∙ sym b.is_leading.ensures ∙ b.if-is_leading.true))
+        | then-not-met-v+then-is_leading b ↦ rw b.next-is
+            (trying_led _ _ _ _ c.loop-r.r p c.if-level-r.true c.loop-v.v q c.loop-v.next c.loop-v.invariant.1 (few-nodes c.args.t c.args.mem.now c.requires.kept.arranged) (ap not b.if-not-met-v.true) (sym at ∙ sym b.is_leading.ensures ∙ b.if-is_leading.true))
         | then-not-met-v+else-is_leading b ↦ rw b.next-is (trying_unled _ _ _ _ c.loop-r.r p c.if-level-r.true c.loop-v.v q c.loop-v.next c.loop-v.invariant.1 (sym at ∙ sym b.is_leading.ensures ∙ b.if-is_leading.false))
         | else-not-met-v b ↦ rw b.next-is (trying_met _ _ _ _ c.loop-r.r p c.if-level-r.true c.loop-v.v q c.loop-v.next c.loop-v.invariant.1 (ap not b.if-not-met-v.false))
       ],
@@ -40,7 +39,7 @@ loop-r-preserved c =
     let p = held c.args.t c.args.mem.now c.requires.kept.arranged c.loop-r.r c.loop-r-test.true in (
       omega arith,
       elim c.if-level-r.branch [
-          then-level-r+else-loop-v-test b ↦ rw b.next-is (tried_on _ _ _ _ c.loop-r.r p b.loop-v.v b.loop-v.next b.loop-v.invariant.1 (omega (arith, b.loop-v-test.false, view-length c.args.t c.requires.kept.arranged c.args.mem.now)))
+        | then-level-r+else-loop-v-test b ↦ rw b.next-is (tried_on _ _ _ _ c.loop-r.r p b.loop-v.v b.loop-v.next b.loop-v.invariant.1 (omega (arith, b.loop-v-test.false, view-length c.args.t c.requires.kept.arranged c.args.mem.now)))
         | else-level-r b ↦ rw b.next-is (tried_out _ _ _ _ c.loop-r.r p c.loop-r.next c.loop-r.invariant.1 b.if-level-r.false)
       ],
     )

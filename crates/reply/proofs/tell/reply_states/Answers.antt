@@ -1,5 +1,4 @@
 use borrow.Author.Rules.{rules}
-use Prim.Native.Nat.{◌-◌}
 use mathlib.Core.List.{[]}
 use native.Mathlib.Omega.{arith}
 use Rattle.reply.proofs.Replies.{replied_as}
@@ -23,20 +22,19 @@ node_state_front-front-requires c =
     front_fits c.args.c.clock c.args.t c.args.mem.now c.requires.0 c.loop-i.i (omega arith) c.meta_at.result c.meta_at.ensures 0 (omega arith)
 
 pub reply-v-requires : goal.reply-v-requires
-reply-v-requires c =
-    (
-      record { used = c.loop-i.invariant.used; room = omega (arith, c.loop-i.invariant.room, c.requires.1.1.0.room); headed = c.loop-i.invariant.headed },
-      (
-        omega (arith, c.loop-i-test.true, c.loop-i.invariant.omitted, c.loop-i.invariant.within, c.requires.0.kept.arranged.most, c.requires.1.1.1),
-        front-room c.args.c.clock c.args.t c.args.mem.now c.requires.0 c.loop-i.i c.loop-i-test.true c.meta_at.result c.meta_at.ensures c.node_state_front-front.result [] 0 c.node_state_front-front.ensures (omega arith),
-      ),
-    )
+reply-v-requires c = (
+  record { used = c.loop-i.invariant.used; room = omega (arith, c.loop-i.invariant.room, c.requires.1.1.0.room); headed = c.loop-i.invariant.headed },
+  (
+    omega (arith, c.loop-i-test.true, c.loop-i.invariant.omitted, c.loop-i.invariant.within, c.requires.0.kept.arranged.most, c.requires.1.1.1),
+    front-room c.args.c.clock c.args.t c.args.mem.now c.requires.0 c.loop-i.i c.loop-i-test.true c.meta_at.result c.meta_at.ensures c.node_state_front-front.result [] 0 c.node_state_front-front.ensures (omega arith),
+  ),
+)
 
 pub loop-i-preserved : goal.loop-i-preserved
 loop-i-preserved c =
     elim c.if-marks-i.branch [
-        then-marks-i b ↦ rw (b.v-is, b.room-is) (listing_on c.args.c c.args.t c.args.marks c.args.d c.args.mem.now c.args.room.now c.requires.0.kept.arranged c.loop-i.i c.loop-i.v c.loop-i.room c.loop-i.invariant (omega arith) b.if-marks-i.true _ _
-        (replied_as b.reply-v.ensures (front-short c.args.c.clock c.args.t c.args.mem.now c.requires.0 c.loop-i.i (omega arith) b.meta_at.result b.meta_at.ensures _ b.node_state_front-front.ensures)))
+      | then-marks-i b ↦ rw (b.v-is, b.room-is) (listing_on c.args.c c.args.t c.args.marks c.args.d c.args.mem.now c.args.room.now c.requires.0.kept.arranged c.loop-i.i c.loop-i.v c.loop-i.room c.loop-i.invariant (omega arith) b.if-marks-i.true _ _
+          (replied_as b.reply-v.ensures (front-short c.args.c.clock c.args.t c.args.mem.now c.requires.0 c.loop-i.i (omega arith) b.meta_at.result b.meta_at.ensures _ b.node_state_front-front.ensures)))
       | else-marks-i b ↦ rw (b.v-is, b.room-is) (listing_stay c.args.c c.args.t c.args.marks c.args.d c.args.mem.now c.args.room.now c.requires.0.kept.arranged c.loop-i.i c.loop-i.v c.loop-i.room c.loop-i.invariant (omega arith) b.if-marks-i.false)
     ]
 

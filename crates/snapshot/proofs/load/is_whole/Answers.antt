@@ -1,6 +1,4 @@
-use Prim.Native.Nat.{◌-◌}
 use native.Mathlib.Omega.{arith}
-use Rattle.snapshot.specs.Answers.{EntryAt}
 use Rattle.snapshot.proofs.Loading.{entry-told, no_entry_lem, judging_start, judged_stops, judged_more, judged_end, judging_own, judging_other}
 use Rattle.snapshot.proofs.load.is_whole.Goals as goal
 use Rattle.snapshot.proofs.load.is_whole.Goals.{then-node-own, else-node-own}
@@ -35,7 +33,7 @@ loop-k-smaller c = omega (arith, c.loop-k-test.true)
 pub loop-k-preserved : goal.loop-k-preserved
 loop-k-preserved c =
     elim c.if-node-own.branch [
-        then-node-own w ↦ rw w.held-is (judging_own c.args.s.now c.args.at c.args.count c.args.own c.loop-k.place c.loop-k.low c.loop-k.held c.loop-k.k c.loop-k.invariant c.loop-k-test.true c.in-Whole.node c.in-Whole.seq c.in-Whole.age c.in-Whole.start c.in-Whole.size (entry-told c.args.s.now c.loop-k.place c.loop-k.low c.entry_at-e.result c.entry_at-e.ensures c.in-Whole.node c.in-Whole.seq c.in-Whole.age c.in-Whole.start c.in-Whole.size c.in-Whole.is) w.if-node-own.true)
+      | then-node-own w ↦ rw w.held-is (judging_own c.args.s.now c.args.at c.args.count c.args.own c.loop-k.place c.loop-k.low c.loop-k.held c.loop-k.k c.loop-k.invariant c.loop-k-test.true c.in-Whole.node c.in-Whole.seq c.in-Whole.age c.in-Whole.start c.in-Whole.size (entry-told c.args.s.now c.loop-k.place c.loop-k.low c.entry_at-e.result c.entry_at-e.ensures c.in-Whole.node c.in-Whole.seq c.in-Whole.age c.in-Whole.start c.in-Whole.size c.in-Whole.is) w.if-node-own.true)
       | else-node-own w ↦ rw w.held-is (judging_other c.args.s.now c.args.at c.args.count c.args.own c.loop-k.place c.loop-k.low c.loop-k.held c.loop-k.k c.loop-k.invariant c.loop-k-test.true c.in-Whole.node c.in-Whole.seq c.in-Whole.age c.in-Whole.start c.in-Whole.size (entry-told c.args.s.now c.loop-k.place c.loop-k.low c.entry_at-e.result c.entry_at-e.ensures c.in-Whole.node c.in-Whole.seq c.in-Whole.age c.in-Whole.start c.in-Whole.size c.in-Whole.is) w.if-node-own.false)
     ]
 

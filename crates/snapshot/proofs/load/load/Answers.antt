@@ -1,6 +1,5 @@
 -- `load` meets its contract: nothing is written before the whole is judged. Assumes nothing.
 -- the numbers before the entries, once they are read
-use Rattle.snapshot.specs.Answers.{Heads}
 use Rattle.snapshot.proofs.Loading.{head_told, no_head, refused, judged_no, judged_yes, loaded}
 use Rattle.snapshot.proofs.load.load.Goals as goal
 
@@ -17,17 +16,16 @@ returns-then-not-is_whole c =
     (judged_no c.args.clock c.args.s.now c.in-Head.own c.in-Head.count c.in-Head.next (head_told c.args.s.now c.head_of-head.result c.head_of-head.ensures c.in-Head.own c.in-Head.count c.in-Head.next c.in-Head.is) c.is_whole.result c.is_whole.ensures c.if-not-is_whole.true)
 
 pub fill-requires : goal.fill-requires
-fill-requires c =
+fill-requires c = (
+  (head_told c.args.s.now c.head_of-head.result c.head_of-head.ensures c.in-Head.own c.in-Head.count c.in-Head.next c.in-Head.is).within,
+  (
+    (head_told c.args.s.now c.head_of-head.result c.head_of-head.ensures c.in-Head.own c.in-Head.count c.in-Head.next c.in-Head.is).few,
     (
-      (head_told c.args.s.now c.head_of-head.result c.head_of-head.ensures c.in-Head.own c.in-Head.count c.in-Head.next c.in-Head.is).within,
-      (
-        (head_told c.args.s.now c.head_of-head.result c.head_of-head.ensures c.in-Head.own c.in-Head.count c.in-Head.next c.in-Head.is).few,
-        (
-          c.requires,
-          judged_yes c.args.clock c.args.s.now c.in-Head.own c.in-Head.count c.in-Head.next (head_told c.args.s.now c.head_of-head.result c.head_of-head.ensures c.in-Head.own c.in-Head.count c.in-Head.next c.in-Head.is) c.is_whole.result c.is_whole.ensures c.if-not-is_whole.false,
-        ),
-      ),
-    )
+      c.requires,
+      judged_yes c.args.clock c.args.s.now c.in-Head.own c.in-Head.count c.in-Head.next (head_told c.args.s.now c.head_of-head.result c.head_of-head.ensures c.in-Head.own c.in-Head.count c.in-Head.next c.in-Head.is) c.is_whole.result c.is_whole.ensures c.if-not-is_whole.false,
+    ),
+  ),
+)
 
 pub returns : goal.returns
 returns c =

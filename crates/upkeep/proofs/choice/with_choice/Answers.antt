@@ -33,8 +33,7 @@ slice_bounds-publish_swap-end c =
 
 pub publish_swap-r-requires : goal.publish_swap-r-requires
 publish_swap-r-requires c =
-    let h = stands_in c.args.endpoint (own_data (state_of c.args.s c.args.mem.now)) c.own_data.result.now c.standing-old.result c.own_data.ensures c.standing-old.ensures in
-    (
+    let h = stands_in c.args.endpoint (own_data (state_of c.args.s c.args.mem.now)) c.own_data.result.now c.standing-old.result c.own_data.ensures c.standing-old.ensures in (
       c.requires.0,
       (
         state-held c.args.s c.args.mem.now c.requires.1.0.table.held,
