@@ -7,7 +7,7 @@ use Rattle.base.proofs.Tests.{no_way, by_test, and_left, and_right, no_not, not_
 use Rattle.base.proofs.Lists.{in_keep, keep_in, keep_same, by_first, all_set}
 use Rattle.base.proofs.Options.{by_cond}
 use Rattle.wire.specs.Row.{type_of, value_of, tlvs}
-use Rattle.wire.specs.Order.{good, place, among, without}
+use Rattle.wire.specs.Order.{good, among, without}
 use Rattle.wire.proofs.Ordering.{same-is, same_self}
 use Rattle.wire.proofs.Good.{Whole, keep-good, keep-tlvs, place_in, in_place, among_in, good-row}
 use Rattle.wire.proofs.Encoded.{encode-whole, encode_type, encode-value, encode-length}

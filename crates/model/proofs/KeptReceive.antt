@@ -15,7 +15,7 @@ use Rattle.model.specs.Table.{Entry, id_of, look}
 use Rattle.model.specs.Trickle.{hear}
 use Rattle.model.specs.State.{State, Peer, with_table, endpoint_at, with_trickle, with_next, own_seq, own_data, publish_as, peer_tlv, with_tlv, settle}
 use Rattle.model.specs.Decide.{Received, Decision, received_of, taken, with_data, without_data, wanted_new, wanted_held, differs, decide, after}
-use Rattle.model.specs.Handle.{Context, fits, new_peer, room_for_peer, add_peer}
+use Rattle.model.specs.Handle.{Context, new_peer, room_for_peer, add_peer}
 use Rattle.model.specs.Refusals.{Row, late, back, no_such_endpoint, small_room, long, no_row}
 use Rattle.model.specs.Receive.{Call, Answer, context_of, handled, refusal_receive, answered, receive}
 use Rattle.model.specs.Invariant.{EntryFits, PeerFits, EndpointFits, Valid, Midway}

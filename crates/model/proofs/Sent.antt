@@ -1,6 +1,6 @@
 -- Everything that a datagram's handling or a tick sends is empty, or a row of whole TLVs with our Node Endpoint TLV first, within the room.
 -- Assumes nothing.
-use Rattle.std.proofs.Common.{◌≡◌, ℕ, ◌+◌, ◌≤◌, Bool, true, false, cond, eqb, List, [], ◌∷◌, ◌++◌, length, sym, refl, ap, ◌∙◌, subst, inl, inr, append-nil, arith, length-append, eqb-true}
+use Rattle.std.proofs.Common.{◌≡◌, ℕ, ◌≤◌, Bool, true, false, cond, eqb, List, [], ◌∷◌, ◌++◌, length, sym, refl, ap, ◌∙◌, subst, inl, inr, append-nil, arith, length-append, eqb-true}
 use borrow.Author.Tests.{eqb-false}
 use Rattle.base.specs.Lists.{join_all}
 use Rattle.base.specs.Bytes.{big32}

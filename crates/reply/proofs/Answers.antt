@@ -11,7 +11,7 @@ use Rattle.base.specs.Lists.{keep_by, is_some}
 use Rattle.base.proofs.Places.{get_d_any}
 use Rattle.model.specs.Figures.{most_bytes, most_nodes}
 use Rattle.model.specs.Table.{Entry, id_of, look}
-use Rattle.model.specs.Reach.{in_reach, reached}
+use Rattle.model.specs.Reach.{in_reach}
 use Rattle.model.specs.State.{no_entry, State as ModelState}
 use Rattle.model.specs.Messages.{network_tlv, short_state, whole_state}
 use Rattle.model.specs.Handle.{reply, replies, digest_now, reached_now, on_request_network, on_request_node}

@@ -2,7 +2,7 @@
 use mathlib.Core.Path.{◌≡◌, refl, sym, ap, ◌∙◌, subst}
 use mathlib.Core.Bool.{true, false, cond}
 use mathlib.Core.List.{List, [], ◌++◌}
-use Prim.Native.Nat.{ℕ, pred, ◌+◌, ◌≤◌}
+use Prim.Native.Nat.{ℕ, pred, ◌≤◌}
 use native.Mathlib.Omega.{arith}
 use lib.ListN.{length, get_or, take, drop, length-append}
 use Rattle.base.specs.Memory.{written}
@@ -10,7 +10,6 @@ use Rattle.base.proofs.Written.{written-length, written-above, written_more, par
 use Rattle.wire.proofs.Encoded.{encode-length}
 use Rattle.model.specs.Figures.{most_bytes, last_reading}
 use Rattle.model.specs.Digest.{network_digest}
-use Rattle.model.specs.Trickle.{event}
 use Rattle.model.specs.State.{State as ModelState, Endpoint as ModelEndpoint, endpoint_at, with_endpoint, settle}
 use Rattle.model.specs.Messages.{endpoint_tlv, network_tlv}
 use Rattle.model.specs.Tick.{drop_silent, Sent, announcement, endpoint_event, after_event, with_event, ticked}

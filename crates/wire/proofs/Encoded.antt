@@ -8,7 +8,7 @@ use lib.ListN.{length, take, drop, length-append, length-replicate, length-drop,
 use lib.Seq.{take-append_seam, drop-append_seam, drop-append-add, take_all, length-take-le}
 use Rattle.base.specs.Bytes.{Bytes, big16, zeros, noughts}
 use Rattle.base.specs.Memory.{written}
-use Rattle.wire.specs.Row.{type_of, length_of, value_of, padding, size_of, heads, encode}
+use Rattle.wire.specs.Row.{type_of, length_of, value_of, padding, size_of, encode}
 use Rattle.wire.specs.Payment.{Payment, Payable, payment_value, payment_tlv, read_payment}
 use Rattle.wire.proofs.Rows.{heads_made, heads-four, heads-zeros}
 use Rattle.base.proofs.Tests.{and_left, and_right}

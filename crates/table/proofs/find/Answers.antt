@@ -1,4 +1,3 @@
-use Prim.Native.Nat.{◌-◌}
 use native.Mathlib.Omega.{arith}
 use Rattle.table.proofs.Tables.{id_is, id_over, ids_under}
 use Rattle.table.proofs.find.Goals as goal

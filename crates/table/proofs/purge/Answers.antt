@@ -1,7 +1,6 @@
 use native.Mathlib.Omega.{arith}
 use mathlib.Core.Path.{◌≡◌, refl, sym, ◌∙◌}
 use mathlib.Core.Bool.{false}
-use Prim.Native.Nat.{◌-◌}
 use lib.ListN.{length, take, get_or, length-set}
 use Rattle.table.proofs.Tables.{purged, keep_on, keep_end, cond-most, live-length}
 use borrow.Author.Rules.{rules}

@@ -1,4 +1,3 @@
-use Prim.Native.Nat.{◌-◌}
 use native.Mathlib.Omega.{arith}
 use Rattle.table.proofs.Tables.{slot_is, slots_differ}
 use Rattle.table.proofs.slot_used.Goals as goal

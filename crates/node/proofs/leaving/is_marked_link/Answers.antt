@@ -1,5 +1,4 @@
 use mathlib.Core.Path.{refl, sym, ◌∙◌}
-use Prim.Native.Nat.{◌-◌}
 use native.Mathlib.Omega.{arith}
 use Rattle.node.proofs.Stripping.{named_end, named_unmarked, named_here, named_other}
 use Rattle.node.proofs.leaving.is_marked_link.Goals as goal

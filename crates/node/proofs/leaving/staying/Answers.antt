@@ -1,7 +1,6 @@
 use borrow.Author.Rules.{rules}
 use native.Mathlib.Omega.{arith}
 use mathlib.Core.Path.{◌≡◌}
-use Prim.Native.Nat.{◌-◌}
 use lib.ListN.{length, length-set}
 use Rattle.node.proofs.Stripping.{stayed_none, stayed_not, stayed_one, stayed_all}
 use Rattle.node.proofs.leaving.staying.Goals as goal

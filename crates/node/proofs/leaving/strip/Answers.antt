@@ -1,4 +1,3 @@
-use Prim.Native.Nat.{◌-◌}
 use native.Mathlib.Omega.{arith}
 use Rattle.node.proofs.Stripping.{passed_none, passed_length, passed-row, ends, passed-gone, passed_kept, passed_all}
 use Rattle.node.proofs.leaving.strip.Goals as goal

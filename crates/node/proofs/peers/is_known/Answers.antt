@@ -1,6 +1,5 @@
 use native.Mathlib.Omega.{arith}
 use mathlib.Core.Path.{sym, ◌∙◌}
-use Prim.Native.Nat.{◌-◌}
 use Rattle.model.specs.State.{is_peer}
 use Rattle.node.proofs.Contacts.{known_start, known-here, known_on, known_end}
 use Rattle.node.proofs.peers.is_known.Goals as goal

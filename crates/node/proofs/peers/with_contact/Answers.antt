@@ -1,6 +1,5 @@
 use native.Mathlib.Omega.{arith}
 use mathlib.Core.Path.{refl, ◌∙◌}
-use Prim.Native.Nat.{◌-◌}
 use Rattle.model.specs.State.{contacted}
 use Rattle.node.specs.View.{peers_of}
 use Rattle.node.proofs.Contacts.{done_next, done_end, peers_set_rep, peers-length}

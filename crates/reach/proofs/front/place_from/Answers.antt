@@ -1,5 +1,4 @@
 use native.Mathlib.Omega.{arith}
-use Prim.Native.Nat.{◌-◌}
 use Rattle.reach.proofs.Fronts.{passed_none, passed_on, parted_here, parted_end}
 use Rattle.reach.proofs.front.place_from.Goals as goal
 

@@ -1,7 +1,5 @@
 use native.Mathlib.Omega.{arith}
-use Prim.Native.Nat.{◌-◌}
 use mathlib.Core.Path.{refl, sym, ◌∙◌}
-use mathlib.Core.Bool.{true, false}
 use Rattle.wire.specs.Row.{tlvs}
 use Rattle.reach.specs.Marks.{link_in}
 use Rattle.reach.proofs.Links.{long_enough, joins_paired, unnamed_on, unmatched_on, paired_here, paired_end, answer_on, answer-here, answer_end}

@@ -1,6 +1,5 @@
 use borrow.Author.Rules.{rules}
 use native.Mathlib.Omega.{arith}
-use Prim.Native.Nat.{◌-◌}
 use Rattle.table.specs.View.{view}
 use Rattle.reach.proofs.Nodes.{few-nodes}
 use Rattle.reach.proofs.Waves.{wave_start, wave_on, wave_stop, wave_end}

@@ -1,5 +1,5 @@
 use mathlib.Core.Path.{◌≡◌, refl}
-use Prim.Native.Nat.{◌+◌, ◌-◌}
+use Prim.Native.Nat.{◌+◌}
 use native.Mathlib.Omega.{arith}
 use Rattle.sha256.proofs.Rounds.{no_rounds, more_rounds, same-rounds}
 use Rattle.sha256.proofs.compress.all_rounds.Goals as goal

@@ -3,7 +3,6 @@ use Prim.Native.Nat.{◌+◌, ◌-◌}
 use native.Mathlib.Omega.{arith}
 use lib.ListN.{length}
 use Rattle.base.proofs.Written.{part_length}
-use Rattle.snapshot.specs.Answers.{EntryAt}
 use Rattle.snapshot.proofs.Loading.{entry-told, no_entry_lem, filling_start, next_gap, filling_next, never_stops, filled}
 use Rattle.snapshot.proofs.load.fill.Goals as goal
 

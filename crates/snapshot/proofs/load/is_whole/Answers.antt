@@ -1,6 +1,4 @@
-use Prim.Native.Nat.{◌-◌}
 use native.Mathlib.Omega.{arith}
-use Rattle.snapshot.specs.Answers.{EntryAt}
 use Rattle.snapshot.proofs.Loading.{entry-told, no_entry_lem, judging_start, judged_stops, judged_more, judged_end, judging_own, judging_other}
 use Rattle.snapshot.proofs.load.is_whole.Goals as goal
 use Rattle.snapshot.proofs.load.is_whole.Goals.{then-node-own, else-node-own}

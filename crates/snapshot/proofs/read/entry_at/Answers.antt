@@ -2,8 +2,7 @@
 -- the numbers, and the size, once they are read
 use native.Mathlib.Omega.{arith}
 use Rattle.model.specs.Figures.{data_limit}
-use Rattle.snapshot.specs.Numbers.{Numbered}
-use Rattle.snapshot.proofs.Reading.{Got, value, unread, numbers_told, no_numbers, size-unread, data_cut, data_bad, entry-stands}
+use Rattle.snapshot.proofs.Reading.{value, unread, numbers_told, no_numbers, size-unread, data_cut, data_bad, entry-stands}
 use Rattle.snapshot.proofs.read.entry_at.Goals as goal
 
 pub returns-in_default : goal.returns-in_default

@@ -3,7 +3,7 @@
 use native.Mathlib.Omega.{arith}
 use Rattle.base.specs.Bytes.{most_u32}
 use Rattle.model.specs.Figures.{most_nodes}
-use Rattle.snapshot.proofs.Reading.{Got, value, unread, edition-unread, edition_wrong, own-unread, count-unread, count-zero, head_stands}
+use Rattle.snapshot.proofs.Reading.{value, unread, edition-unread, edition_wrong, own-unread, count-unread, count-zero, head_stands}
 use Rattle.snapshot.proofs.read.head_of.Goals as goal
 
 pub returns-in_default : goal.returns-in_default

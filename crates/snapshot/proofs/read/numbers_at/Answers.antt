@@ -3,7 +3,7 @@
 use native.Mathlib.Omega.{arith}
 use Rattle.base.specs.Bytes.{most_u32}
 use Rattle.model.specs.Figures.{most_age}
-use Rattle.snapshot.proofs.Reading.{Got, value, unread, node-unread, node-below, seq-unread, age-unread, numbered}
+use Rattle.snapshot.proofs.Reading.{value, unread, node-unread, node-below, seq-unread, age-unread, numbered}
 use Rattle.snapshot.proofs.read.numbers_at.Goals as goal
 
 pub returns-in_default : goal.returns-in_default

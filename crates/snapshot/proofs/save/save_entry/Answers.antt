@@ -4,8 +4,7 @@ use native.Mathlib.Omega.{arith}
 use mathlib.Core.Path.{◌≡◌}
 use Prim.Native.Nat.{◌+◌, ◌-◌, ◌≤◌}
 use lib.ListN.{length}
-use Rattle.wire.specs.Groups.{groups}
-use Rattle.snapshot.proofs.Saving.{Short, short_row, short-age, meta_saved}
+use Rattle.snapshot.proofs.Saving.{short_row, short-age, meta_saved}
 use Rattle.snapshot.proofs.save.save_entry.Goals as goal
 
 pub put_groups-a-requires : goal.put_groups-a-requires

@@ -1,7 +1,5 @@
 use native.Mathlib.Omega.{arith}
 use mathlib.Core.Path.{refl, sym, ◌∙◌}
-use mathlib.Core.Bool.{true}
-use Prim.Native.Nat.{◌-◌}
 use Rattle.upkeep.proofs.KeepAlive.{for_end, for_here, for_on, long_enough}
 use Rattle.upkeep.proofs.silence.interval_for.Goals as goal
 

@@ -1,7 +1,5 @@
 use native.Mathlib.Omega.{arith}
-use Prim.Native.Nat.{◌-◌}
 use mathlib.Core.Path.{sym, ◌∙◌, refl}
-use mathlib.Core.Bool.{true}
 use Rattle.wire.proofs.Good.{among_later, among_end, ascending_on, without_on, stands_here}
 use Rattle.wire.proofs.order.find_tlv.Goals as goal
 

@@ -1,5 +1,4 @@
 use native.Mathlib.Omega.{arith}
-use Prim.Native.Nat.{◌-◌}
 use mathlib.Core.Path.{sym, ◌∙◌, refl}
 use Rattle.wire.proofs.Ordering.{before_end, before-over, before_differ, before_on}
 use Rattle.wire.proofs.order.is_before.Goals as goal

@@ -1,5 +1,4 @@
 use native.Mathlib.Omega.{arith}
-use Prim.Native.Nat.{◌-◌}
 use mathlib.Core.Path.{sym, ◌∙◌, refl}
 use Rattle.wire.proofs.Ordering.{same_end, same_differ, same_on, same_size}
 use Rattle.wire.proofs.order.is_same.Goals as goal

@@ -1,7 +1,5 @@
 use native.Mathlib.Omega.{arith}
-use Prim.Native.Nat.{◌-◌}
 use mathlib.Core.Path.{sym, ◌∙◌, refl}
-use mathlib.Core.Bool.{true}
 use Rattle.wire.proofs.Good.{put-here, put_later, put_end}
 use Rattle.wire.proofs.order.place_of.Goals as goal
 

@@ -1,5 +1,4 @@
 use native.Mathlib.Omega.{arith}
-use Prim.Native.Nat.{◌-◌}
 use mathlib.Core.Path.{sym, ◌∙◌, refl}
 use lib.ListN.{drop, length-drop}
 use Rattle.wire.proofs.Rows.{left_end, left_bad, left_on, size_none, size-some, size_is}

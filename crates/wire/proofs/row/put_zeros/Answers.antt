@@ -1,5 +1,4 @@
 use native.Mathlib.Omega.{arith}
-use Prim.Native.Nat.{◌-◌}
 use mathlib.Core.Path.{sym, ◌∙◌, refl}
 use lib.ListN.{length-set}
 use Rattle.base.proofs.Written.{zeros-written, zeros-done}
