@@ -1,7 +1,6 @@
 use mathlib.Core.Path.{◌∙◌, ap}
-use mathlib.Core.Bool.{true}
 use mathlib.Core.List.{List}
-use Prim.Native.Nat.{ℕ, ◌+◌, ◌-◌}
+use Prim.Native.Nat.{ℕ, ◌+◌}
 use native.Mathlib.Omega.{arith}
 use Rattle.base.proofs.Lists.{part-is}
 use Rattle.wire.proofs.Good.{good-row, good-fits}

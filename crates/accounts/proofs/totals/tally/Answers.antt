@@ -1,5 +1,4 @@
 use borrow.Author.Rules.{rules}
-use Prim.Native.Nat.{◌-◌}
 use native.Mathlib.Omega.{arith}
 use Rattle.table.specs.View.{view}
 use Rattle.accounts.proofs.Sums.{table-start, meta_good, metas_room, metas_stay, metas_on, metas_end}
