@@ -1,6 +1,6 @@
 use lib.ListN.{take, drop}
 use mathlib.Core.Path.{refl, sym, ◌∙◌}
-use mathlib.Core.Bool.{true, false}
+use mathlib.Core.Bool.{false}
 use Prim.Native.Nat.{◌+◌, ◌-◌}
 use native.Mathlib.Omega.{arith}
 use lib.Seq.{set-get_or}
@@ -86,7 +86,7 @@ loop-at-preserved-then-is_meeting c =
           (c.tlv_at-h.ensures.value ∙ sym (part-is c.args.datagram.now c.tlv_at-h.result.start (c.tlv_at-h.result.start + c.tlv_at-h.result.len) c.tlv_at-h.result.len refl)) c.on_tlv-x.result c.on_tlv-x.ensures
           c.answered-d.result _ c.answered-d.ensures c.if-is_altering.t c.if-is_altering.mem
           (elim c.if-is_altering.branch [
-              then-is_altering b ↦ rw (b.t-is, b.mem-is) b.altered-t.ensures
+            | then-is_altering b ↦ rw (b.t-is, b.mem-is) b.altered-t.ensures
             | else-is_altering b ↦ rw (b.t-is, b.mem-is) (unaltered c'' c.on_tlv-x.result.progress.sender c.on_tlv-x.result.act c.is_altering.result c.is_altering.ensures b.if-is_altering.false (take (c.tlv_at-h.result.start + c.tlv_at-h.result.len - c.tlv_at-h.result.start) (drop c.tlv_at-h.result.start c.args.datagram.now)) c.loop-at.t c.loop-at.mem)
           ])
           c.met-p.result c.met-p.ensures.0 c.met-p.ensures.1,
@@ -105,7 +105,7 @@ loop-at-preserved c =
           (c.tlv_at-h.ensures.value ∙ sym (part-is c.args.datagram.now c.tlv_at-h.result.start (c.tlv_at-h.result.start + c.tlv_at-h.result.len) c.tlv_at-h.result.len refl)) c.on_tlv-x.result c.on_tlv-x.ensures
           c.answered-d.result _ c.answered-d.ensures c.if-is_altering.t c.if-is_altering.mem
           (elim c.if-is_altering.branch [
-              then-is_altering b ↦ rw (b.t-is, b.mem-is) b.altered-t.ensures
+            | then-is_altering b ↦ rw (b.t-is, b.mem-is) b.altered-t.ensures
             | else-is_altering b ↦ rw (b.t-is, b.mem-is) (unaltered c'' c.on_tlv-x.result.progress.sender c.on_tlv-x.result.act c.is_altering.result c.is_altering.ensures b.if-is_altering.false (take (c.tlv_at-h.result.start + c.tlv_at-h.result.len - c.tlv_at-h.result.start) (drop c.tlv_at-h.result.start c.args.datagram.now)) c.loop-at.t c.loop-at.mem)
           ])
           c.loop-at.p c.loop-at.invariant.0.ready.sound.rep.peers (unmet c'' c.on_tlv-x.result.progress.sender c.on_tlv-x.result.act c.is_meeting.result c.is_meeting.ensures c.if-is_meeting.false (peers_of c.loop-at.p)),
