@@ -1,6 +1,5 @@
 use mathlib.Core.Bool.{not}
 use mathlib.Core.Path.{sym, ◌∙◌}
-use borrow.Author.Tests.{not-false}
 use Rattle.base.proofs.Tests.{no_not}
 use mathlib.Core.Path.{ap}
 use Rattle.exchange.proofs.carry.joined.Goals as goal

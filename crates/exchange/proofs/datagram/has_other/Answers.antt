@@ -1,7 +1,5 @@
 use native.Mathlib.Omega.{arith}
 use mathlib.Core.Path.{refl, sym, ◌∙◌}
-use mathlib.Core.Bool.{true}
-use Prim.Native.Nat.{◌-◌}
 use Rattle.exchange.proofs.Others.{others_end, others-here, others_on}
 use Rattle.exchange.proofs.datagram.has_other.Goals as goal
 
