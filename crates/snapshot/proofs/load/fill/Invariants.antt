@@ -1,5 +1,4 @@
 -- `fill` meets its contract. The loop's invariant: what the table holds, before what is left, is what loads. Assumes nothing.
--- the entry, once it is read
 use Prim.Native.Nat.{◌-◌}
 use Rattle.snapshot.proofs.Loading.{Filling}
 use Rattle.snapshot.proofs.load.fill.Given as goal

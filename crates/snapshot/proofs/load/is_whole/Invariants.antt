@@ -1,5 +1,4 @@
 -- `is_whole` meets its contract. The loop's invariant: what is left, with what was held so far, is judged as the whole. Assumes nothing.
--- the entry, once it is read
 use Prim.Native.Nat.{◌-◌}
 use Rattle.snapshot.proofs.Loading.{Judging}
 use Rattle.snapshot.proofs.load.is_whole.Given as goal

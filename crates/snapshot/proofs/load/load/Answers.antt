@@ -1,5 +1,4 @@
 -- `load` meets its contract: nothing is written before the whole is judged. Assumes nothing.
--- the numbers before the entries, once they are read
 use Rattle.snapshot.proofs.Loading.{head_told, no_head, refused, judged_no, judged_yes, loaded}
 use Rattle.snapshot.proofs.load.load.Goals as goal
 

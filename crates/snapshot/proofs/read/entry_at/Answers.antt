@@ -1,5 +1,4 @@
 -- `entry_at` meets its contract: after the numbers the size and the data. Assumes nothing.
--- the numbers, and the size, once they are read
 use native.Mathlib.Omega.{arith}
 use Rattle.model.specs.Figures.{data_limit}
 use Rattle.snapshot.proofs.Reading.{value, unread, numbers_told, no_numbers, size-unread, data_cut, data_bad, entry-stands}

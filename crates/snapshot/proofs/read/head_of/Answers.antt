@@ -1,5 +1,4 @@
 -- `head_of` meets its contract: each answer of the group reader leads one number on. Assumes nothing.
--- the three numbers, once they are read
 use native.Mathlib.Omega.{arith}
 use Rattle.base.specs.Bytes.{most_u32}
 use Rattle.model.specs.Figures.{most_nodes}

@@ -1,6 +1,4 @@
 -- `save` meets its contract. The loop's invariant: the first i entries are written behind the numbers. Assumes nothing.
--- the table has as many entries as the count says
--- what is written before the loop
 use Prim.Native.Nat.{◌-◌}
 use Rattle.table.specs.View.{view}
 use Rattle.snapshot.proofs.Saving.{Through}

@@ -1,5 +1,4 @@
 -- `save_entry` meets its contract: four numbers and the data, each right behind the one before. Assumes nothing.
--- the data ends inside the room
 use native.Mathlib.Omega.{arith}
 use mathlib.Core.Path.{◌≡◌}
 use Prim.Native.Nat.{◌+◌, ◌-◌, ◌≤◌}

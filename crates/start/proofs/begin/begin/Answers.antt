@@ -1,4 +1,4 @@
--- `good` holds the length of the random numbers' array.
+-- `well_formed` holds the length of the random numbers' array.
 use native.Mathlib.Omega.{arith}
 use Rattle.start.proofs.Starting.{begun-readable, begun-moved}
 use Rattle.start.proofs.begin.begin.Goals as goal

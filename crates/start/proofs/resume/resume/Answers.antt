@@ -1,4 +1,4 @@
--- `good` holds the length of the random numbers' array.
+-- `well_formed` holds the length of the random numbers' array.
 use borrow.Author.Tests.{not-true, not-false}
 use Rattle.start.proofs.Resuming.{resume-refused, resume_ready, resume-readable, resume_done}
 use Rattle.start.proofs.resume.resume.Goals as goal
