@@ -1,30 +1,11 @@
 -- Laws of bytes and big-endian numbers. Assumes nothing.
-use mathlib.Core.Path.{◌≡◌, refl, ◌∙◌}
-use mathlib.Core.Bool.{false, ◌&&◌, and-true}
-use mathlib.Core.List.{List, [], ◌∷◌, ◌++◌, append_assoc}
-use Prim.Native.Nat.{ℕ, zero, suc, ◌+◌, ◌-◌, ◌<◌, ◌≤◌}
+use mathlib.Core.Path.{◌≡◌, ◌∙◌}
+use mathlib.Core.List.{List, [], ◌∷◌, ◌++◌}
+use Prim.Native.Nat.{ℕ, zero, suc, ◌+◌, ◌<◌, ◌≤◌}
 use native.Mathlib.Omega.{arith}
-use lib.ListN.{length, get_or, take, drop, set}
-use lib.Seq.{sets-eq, get_or-drop, get_or-take}
-use lib.Dec.{eqb}
-use borrow.Author.Tests.{eq-eqb, ne_eqb}
-use Rattle.base.specs.Bytes.{Bytes, u16_at, u32_at, zeros}
-use Rattle.base.specs.Memory.{written}
-use Rattle.base.proofs.Lists.{drop-next}
-
--- ---- stores in a row
-
-pub stores2 : (l : List ℕ) (i a b : ℕ) → i + 2 ≤ length l → set (set l i a) (i + 1) b ≡ written l i (a ∷ b ∷ [])
-stores2 l i a b h =
-    let e1 : i + 1 ≡ suc i = omega arith in
-    rw e1 (sets-eq (a ∷ b ∷ []) l i h ∙ append_assoc (take i l) (a ∷ b ∷ []) (drop (i + 2) l))
-
-pub stores4 : (l : List ℕ) (i a b c d : ℕ) → i + 4 ≤ length l → set (set (set (set l i a) (i + 1) b) (i + 2) c) (i + 3) d ≡ written l i (a ∷ b ∷ c ∷ d ∷ [])
-stores4 l i a b c d h =
-    let e1 : i + 1 ≡ suc i = omega arith in
-    let e2 : i + 2 ≡ suc (suc i) = omega arith in
-    let e3 : i + 3 ≡ suc (suc (suc i)) = omega arith in
-    rw (e1, e2, e3) (sets-eq (a ∷ b ∷ c ∷ d ∷ []) l i h ∙ append_assoc (take i l) (a ∷ b ∷ c ∷ d ∷ []) (drop (i + 4) l))
+use lib.ListN.{get_or, take, drop}
+use lib.Seq.{get_or-drop, get_or-take}
+use Rattle.base.specs.Bytes.{Bytes, u16_at, u32_at}
 
 -- ---- numbers at a place
 
@@ -33,32 +14,6 @@ u16_drop s a i = let e : a + (i + 1) ≡ a + i + 1 = omega arith in rw (get_or-d
 
 pub u16_take : (s : List ℕ) (n i : ℕ) → i + 2 ≤ n → u16_at (take n s) i ≡ u16_at s i
 u16_take s n i h = rw (get_or-take n s i 0 (omega arith), get_or-take n s (i + 1) 0 (omega arith))
-
--- ---- runs of zeros
-
-pub zeros_on : (s : List ℕ) (a k : ℕ) → a < length s → 0 < k → zeros (take k (drop a s)) ≡ eqb (get_or s a 0) 0 && zeros (take (k - 1) (drop (a + 1) s))
-zeros_on s a zero h p = absurd (omega arith)
-zeros_on s a (suc k) h p =
-    let e : suc k - 1 ≡ k = omega arith in
-    rw (e, drop-next s a h)
-
-module _ (s : List ℕ) (a k : ℕ) (h : a < length s) (p : 0 < k) where
-  pub zero_stop : (get_or s a 0 ≡ 0 → ⊥) → zeros (take k (drop a s)) ≡ false
-  zero_stop n = zeros_on s a k h p ∙ rw (ne_eqb (get_or s a 0) 0 n)
-
-  pub zero_on : (b : ℕ) → b ≡ a + 1 → get_or s a 0 ≡ 0 → zeros (take k (drop a s)) ≡ zeros (take (k - 1) (drop b s))
-  zero_on b e z = zeros_on s a k h p ∙ rw (eq-eqb (get_or s a 0) 0 z, e)
-
-pub zero-last : (s : List ℕ) (a : ℕ) → a < length s → zeros (take 1 (drop a s)) ≡ eqb (get_or s a 0) 0
-zero-last s a h = zeros_on s a 1 h (omega arith) ∙ and-true (eqb (get_or s a 0) 0)
-
--- two and three zeros
-module _ (s : List ℕ) (a k : ℕ) (h : a + k ≤ length s) where
-  pub zero_two : 2 ≤ k → get_or s a 0 ≡ 0 → zeros (take k (drop a s)) ≡ zeros (take (k - 1) (drop (a + 1) s))
-  zero_two p z = zero_on s a k (omega arith) (omega arith) (a + 1) refl z
-
-  pub zero_three : 3 ≤ k → get_or s a 0 ≡ 0 → get_or s (a + 1) 0 ≡ 0 → zeros (take k (drop a s)) ≡ zeros (take (k - 1 - 1) (drop (a + 2) s))
-  zero_three p z y = zero_two (omega arith) z ∙ zero_on s (a + 1) (k - 1) (omega arith) (omega arith) (a + 2) (omega arith) y
 
 -- ---- bytes
 

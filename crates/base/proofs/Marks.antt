@@ -9,7 +9,6 @@ use native.Mathlib.Omega.{arith}
 use lib.ListN.{length, get_or, take, drop, set, replicate, length-replicate, drop_of_length-le}
 use lib.Seq.{get_or-drop, get_or-set_same, get_or-set_other, drop-cons, drop-drop}
 use lib.Dec.{eqb}
-use borrow.Author.Count.{below_more}
 use borrow.Author.Tests.{eq-eqb, ne_eqb}
 use Rattle.base.specs.Lists.{any, keep, keep_by}
 use Rattle.base.specs.Sorted.{Above, Ascending}
@@ -134,18 +133,6 @@ module _ {A : Type 0} (d : A) where
     pub keep_by_in : get_or bs i false ≡ true → keep_by bs (take (i + 1) l) ≡ keep_by bs (take i l) ++ (get_or l i d ∷ [])
     keep_by_in b = rw (add-one, by_suc bs l i p, b)
 
--- whether one is set from place i on
-module _ (bs : List Bool) (i : ℕ) where
-  pub any_end : length bs ≤ i → any (λ b. b) (drop i bs) ≡ false
-  any_end h = rw (drop_of_length-le bs {i = i} h)
-
-  module _ (h : i < length bs) where
-    pub any_here : get_or bs i false ≡ true → any (λ b. b) (drop i bs) ≡ true
-    any_here e = rw (drop-cons bs i false h, e)
-
-    pub any_on : get_or bs i false ≡ false → any (λ b. b) (drop i bs) ≡ any (λ b. b) (drop (i + 1) bs)
-    any_on e = rw (drop-cons bs i false h, e, add-one i)
-
 module _ {A : Type 0} (d : A) where
   -- marks by place that are a test, none set past the end: one is set if the test finds one
   pub any_places : (p : A → Bool) (bs : List Bool) (l : List A) → ((i : ℕ) → i < length l → get_or bs i false ≡ p (get_or l i d))
@@ -162,24 +149,6 @@ module _ {A : Type 0} (d : A) where
 pub record Filled (P Q : ℕ → Bool) (i : ℕ) (bs : List Bool) : Type 0 where
   pub done : (k : ℕ) → k < i → get_or bs k false ≡ P k
   pub left : (k : ℕ) → i ≤ k → get_or bs k false ≡ Q k
-
-module _ (P Q : ℕ → Bool) where
-  pub fill_start : (bs : List Bool) → ((k : ℕ) → get_or bs k false ≡ Q k) → Filled P Q 0 bs
-  fill_start bs h = record { done = λ k p. absurd (not-suc-le-zero p); left = λ k p. h k }
-
-  module _ (i : ℕ) (bs : List Bool) (f : Filled P Q i bs) where
-    -- the mark at place i is set anew, or stays
-    pub fill_set : (b : Bool) (cs : List Bool) → i < length bs → cs ≡ set bs i b → b ≡ P i → Filled P Q (i + 1) cs
-    fill_set b cs l e h =
-        rw e
-        (record {
-          done = below_more (λ k. get_or (set bs i b) k false ≡ P k) i (λ k p. get_or-set_other bs i k b false (λ q. omega arith) ∙ f.done k p) (get_or-set_same bs i b false l ∙ h);
-          left = λ k p. get_or-set_other bs i k b false (λ q. omega arith) ∙ f.left k (omega arith);
-        })
-
-    pub fill_stay : (cs : List Bool) → cs ≡ bs → Q i ≡ P i → Filled P Q (i + 1) cs
-    fill_stay cs e h =
-        rw e (record { done = below_more (λ k. get_or bs k false ≡ P k) i f.done (f.left i (omega arith) ∙ h); left = λ k p. f.left k (omega arith) })
 
 -- ---- marks of a list in strictly ascending order
 

@@ -3,13 +3,12 @@ use mathlib.Core.Path.{◌≡◌, refl, sym, ap, ◌∙◌}
 use mathlib.Core.Bool.{cond}
 use mathlib.Core.List.{List, [], ◌∷◌, ◌++◌, map}
 use mathlib.Core.Option.{some}
-use Prim.Native.Nat.{ℕ, zero, suc, ◌+◌, ◌-◌, ◌≤◌, ◌<◌, zero-le, suc-le-suc}
+use Prim.Native.Nat.{ℕ, zero, suc, ◌≤◌, ◌<◌, zero-le, suc-le-suc}
 use native.Mathlib.Nat.{not-suc-le-zero, le_of_suc-le-suc}
 use native.Mathlib.Omega.{arith}
-use lib.ListN.{length, get_or, take, drop, set, length-take, length-drop, length-append, take-append-drop, drop_of_length-le}
-use lib.Seq.{get_or-drop, get_or-append-add, get_or_at, drop-cons, set_at, take-suc, append_snoc, take_at, length-take-le}
+use lib.ListN.{length, get_or, take, drop, set, drop_of_length-le}
+use lib.Seq.{drop-cons}
 use lib.Dec.{eqb}
-use native.Mathlib.Numerals.{add-one}
 use borrow.Author.Tests.{eqb-true, eqb-false}
 use mathlib.Core.Logic.{inl, inr, ⊎_elim}
 use Rattle.base.specs.Lists.{In, All}
@@ -61,34 +60,6 @@ pub get_d_any : {A : Type 0} (l : List A) (i : ℕ) (d d' : A) → i < length l 
 get_d_any [] i d d' h = absurd (not-suc-le-zero h)
 get_d_any (x ∷ l) zero d d' h = refl
 get_d_any (x ∷ l) (suc i) d d' h = get_d_any l i d d' (le_of_suc-le-suc h)
-
-module _ {A : Type 0} (l : List A) (k : ℕ) (e : A) (h : k ≤ length l) where
-  ins_length : length (take k l ++ (e ∷ drop k l)) ≡ length l + 1
-  ins_length = simp (length-append, length-take, length-drop) (omega arith)
-
-  pub ins_start : take k (take k l ++ (e ∷ drop k l)) ++ drop k l ≡ l
-  ins_start = rw (take_at (take k l) (e ∷ drop k l) k (length-take-le k l h)) (take-append-drop k l)
-
-  pub ins_at : (d : A) → get_or (take k l ++ (e ∷ drop k l)) k d ≡ e
-  ins_at d = get_or_at (take k l) e (drop k l) d k (length-take-le k l h)
-
-  module _ (j : ℕ) (p : k ≤ j) (q : j < length l) where
-    pub ins_next : (d d' : A) → get_or l j d ≡ get_or (take k l ++ (e ∷ drop k l)) (j + 1) d'
-    ins_next d d' =
-        let n : length (take k l) + suc (j - k) ≡ j + 1 = rw (length-take-le k l h) (omega arith) in
-        let m : k + (j - k) ≡ j = omega arith in
-        let g : get_or (take k l ++ (e ∷ drop k l)) (length (take k l) + suc (j - k)) d' ≡ get_or (drop k l) (j - k) d' = get_or-append-add (take k l) (e ∷ drop k l) (suc (j - k)) d' in
-        let g2 : get_or (drop k l) (j - k) d' ≡ get_or l (k + (j - k)) d' = get_or-drop k l (j - k) d' in
-        get_d_any l j d d' q ∙ sym (rw (n, g2, m) at g)
-
-    pub ins_read : (d : A) → get_or (take j (take k l ++ (e ∷ drop k l)) ++ drop j l) j d ≡ get_or l j d
-    ins_read d = rw (drop-cons l j d q) (get_or_at (take j (take k l ++ (e ∷ drop k l))) (get_or l j d) (drop (suc j) l) d j (length-take-le j (take k l ++ (e ∷ drop k l)) (omega (arith, ins_length))))
-
-    pub ins_step : (d : A) → set (take j (take k l ++ (e ∷ drop k l)) ++ drop j l) j (get_or (take k l ++ (e ∷ drop k l)) j d) ≡ take (j + 1) (take k l ++ (e ∷ drop k l)) ++ drop (j + 1) l
-    ins_step d =
-        rw (drop-cons l j d q)
-        (set_at (take j (take k l ++ (e ∷ drop k l))) (get_or l j d) (drop (suc j) l) (get_or (take k l ++ (e ∷ drop k l)) j d) j (length-take-le j (take k l ++ (e ∷ drop k l)) (omega (arith, ins_length)))
-        ∙ rw (add-one, take-suc (take k l ++ (e ∷ drop k l)) j d (omega (arith, ins_length)), append_snoc))
 
 -- ---- as many elements as numbers
 

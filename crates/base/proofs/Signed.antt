@@ -2,14 +2,13 @@
 use mathlib.Core.Path.{◌≡◌, refl, sym, ap, ◌∙◌}
 use mathlib.Core.Bool.{Bool, true, false, cond}
 use mathlib.Core.List.{List, [], ◌∷◌, ◌++◌, map}
-use Prim.Native.Nat.{ℕ, zero, suc, ◌+◌, ◌-◌, ◌^◌, ◌<◌, ◌≤◌}
+use Prim.Native.Nat.{ℕ, suc, ◌+◌, ◌-◌, ◌≤◌}
 use native.Mathlib.Omega.{arith}
-use lib.IntN.{ℤ, pos, negsuc, neg_ℤ, ◌+ℤ◌, ◌-ℤ◌, +ℤ_assoc, +ℤ_comm, +ℤ_idl, +ℤ_invl}
+use lib.IntN.{ℤ, pos, negsuc, neg_ℤ, ◌+ℤ◌, +ℤ_assoc, +ℤ_comm, +ℤ_idl, +ℤ_invl}
 use lib.Dec.{ltb}
 use lib.Signed.{mag, lt_z}
-use borrow.Author.Tests.{ltb-true, le-ltb, lt-ltb}
 use mir.Syntax.{Width, w32, w64}
-use mir.Val.{SFits, to_z, of_z, hbits}
+use mir.Val.{SFits, to_z, of_z}
 use mir.Facts.{to_z-of_z, sfits_widen}
 use Rattle.base.specs.Signed.{sumℤ}
 
@@ -53,14 +52,6 @@ sum_zeros (x ∷ xs) = +ℤ_idl (sumℤ (map (λ x. pos 0) xs)) ∙ sum_zeros xs
 
 -- ---- a signed number in a local is its bits
 
-flipped : (x : ℤ) → lt_z x (pos 0) ≡ true → negsuc 0 -ℤ x ≡ pos (mag x)
-flipped (pos a) e = absurd (omega (arith, ltb-true a 0 e))
-flipped (negsuc a) e = rw (le-ltb (suc a) 1 (omega arith)) (ap pos (omega arith))
-
-pub not_neg : (x : ℤ) → lt_z x (pos 0) ≡ false → x ≡ pos (mag x)
-not_neg (pos a) e = refl
-not_neg (negsuc a) e = absurd (let z : ◌≡◌ {A = ℕ} 0 1 = cc in omega arith)
-
 -- of any width
 module _ (w : Width) (x : ℤ) (fx : SFits w x) where
   pub narrow_back : to_z w (of_z w x) ≡ x
@@ -69,36 +60,7 @@ module _ (w : Width) (x : ℤ) (fx : SFits w x) where
   pub sign : (b : Bool) → lt_z (to_z w (of_z w x)) (pos 0) ≡ b → lt_z x (pos 0) ≡ b
   sign b e = rw narrow_back at e
 
-  pub minus : lt_z x (pos 0) ≡ true → negsuc 0 -ℤ to_z w (of_z w x) ≡ pos (mag x)
-  minus e = rw narrow_back (flipped x e)
-
-  pub minus-back : lt_z x (pos 0) ≡ true → to_z w (of_z w (negsuc 0 -ℤ to_z w (of_z w x))) ≡ pos (mag x)
-  minus-back e = rw (minus e) (to_z-of_z {w = w} (record { sfits = fx.sfits }))
-
-  pub plain_back : lt_z x (pos 0) ≡ false → to_z w (of_z w x) ≡ pos (mag x)
-  plain_back e = narrow_back ∙ not_neg x e
-
-minus_pos : (n : ℕ) → negsuc 0 -ℤ pos n ≡ negsuc n
-minus_pos zero = refl
-minus_pos (suc n) = ap negsuc (omega arith)
-
-module _ (w : Width) (n : ℕ) (h : n < 2 ^ hbits w) where
-  pub small : to_z w n ≡ pos n
-  small = rw (lt-ltb n (2 ^ hbits w) h)
-
-  pub below : negsuc 0 -ℤ to_z w n ≡ negsuc n
-  below = rw small (minus_pos n)
-
-  pub below-fits : SFits w (negsuc 0 -ℤ to_z w n)
-  below-fits = rw below (record { sfits = h })
-
-  pub below-back : to_z w (of_z w (negsuc 0 -ℤ to_z w n)) ≡ negsuc n
-  below-back = to_z-of_z {w = w} below-fits ∙ below
-
 -- a signed word widened
 module _ (x : ℤ) (f : SFits w32 x) where
-  pub wide_fits : SFits w64 (to_z w32 (of_z w32 x))
-  wide_fits = rw (narrow_back w32 x f) (sfits_widen {w = w32} {w' = w64} tt f)
-
   pub wide_back : to_z w64 (of_z w64 (to_z w32 (of_z w32 x))) ≡ x
   wide_back = rw (narrow_back w32 x f) (narrow_back w64 x (sfits_widen {w = w32} {w' = w64} tt f))

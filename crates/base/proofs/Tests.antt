@@ -1,6 +1,6 @@
 -- Laws of tests. Assumes nothing.
 use mathlib.Core.Path.{◌≡◌, refl, sym}
-use mathlib.Core.Bool.{Bool, true, false, not, ◌&&◌, ◌||◌, or-true, or-false}
+use mathlib.Core.Bool.{Bool, true, false, not, ◌&&◌, ◌||◌}
 use Prim.Native.Nat.{ℕ, ◌≤◌, ◌<◌}
 use native.Mathlib.Omega.{arith}
 use lib.Dec.{eqb, ltb}
@@ -38,15 +38,6 @@ not_no b e = rw e
 pub no_not : (b : Bool) → not b ≡ true → b ≡ false
 no_not true e = sym e
 no_not false e = refl
-
-pub or_yes : (a b : Bool) → b ≡ true → true ≡ a || b
-or_yes a b e = rw e (sym (or-true a))
-
-pub or_no : (a b : Bool) → b ≡ false → a ≡ a || b
-or_no a b e = rw e (sym (or-false a))
-
-pub and_stop : (a b : Bool) → a ≡ false → false ≡ a && b
-and_stop a b e = rw e
 
 -- two tests that hold together are one
 pub both_ways : (a b : Bool) → (a ≡ true → b ≡ true) → (b ≡ true → a ≡ true) → a ≡ b

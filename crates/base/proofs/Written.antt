@@ -1,16 +1,17 @@
 -- Written memory: what stands there, what stays. Assumes nothing.
-use Prim.Native.Nat.{ℕ, zero, suc, ◌+◌, ◌-◌, ◌*◌, ◌≤◌, ◌<◌}
+use Prim.Native.Nat.{ℕ, suc, ◌+◌, ◌-◌, ◌*◌, ◌≤◌, ◌<◌}
 use mathlib.Core.Path.{◌≡◌, refl, sym, ap, ◌∙◌}
 use mathlib.Core.List.{List, [], ◌∷◌, ◌++◌, append_assoc}
 use native.Mathlib.Nat.{suc-mul, mul-le-mul_right}
 use native.Mathlib.Omega.{arith}
 use native.Mathlib.Numerals.{add-one}
 use mathlib.Core.Logic.{◌⊎◌, inl, inr}
-use lib.ListN.{length, take, drop, set, get_or, length-take, length-drop, length-append, take-append-drop, drop_of_length-le, get_or-append}
-use lib.Seq.{take-take, take_all, take_at, drop_at, take-append-le, drop-append-add, get_or-drop, get_or-take, drop-drop, take-add, length-take-le, take-suc, drop-cons, set_at, set_split, take-suc-set, drop-set-lt}
+use lib.ListN.{length, take, drop, set, length-take, length-drop, length-append, take-append-drop}
+use lib.Seq.{take-take, take_at, drop-append-add, drop-drop, take-add, length-take-le, set_split}
 use borrow.Rule.Slice.PartMut.{put_mid}
+use Rattle.std.specs.List.{copy_within}
+use Rattle.std.proofs.lemmas.Grind.{common_steps}
 use Rattle.base.proofs.Tests.{by_order}
-use Rattle.base.specs.Bytes.{noughts}
 use Rattle.base.specs.Memory.{part, written, spliced, cut, Outside}
 use Rattle.base.proofs.Lists.{drop-take, take_drop_take}
 
@@ -19,14 +20,10 @@ module _ (m d : List ℕ) (a : ℕ) (h : a + length d ≤ length m) where
   written-length = simp (length-append, length-take, length-drop) (omega arith)
 
   pub written-there : take (length d) (drop a (written m a d)) ≡ d
-  written-there =
-      rw (drop_at (take a m) (d ++ drop (a + length d) m) a (length-take-le a m (omega arith))) (take_at d (drop (a + length d) m) (length d) refl)
+  written-there = grind (arith, common_steps)
 
   pub written_below : (b : ℕ) → b ≤ a → take b (written m a d) ≡ take b m
-  written_below b p =
-      let l : length (take a m) ≡ a = length-take-le a m (omega arith) in
-      let k : take b (take a m ++ drop a m) ≡ take b (take a m) = take-append-le b (take a m) (drop a m) (omega arith) in
-      take-append-le b (take a m) (d ++ drop (a + length d) m) (omega arith) ∙ sym (rw (take-append-drop a m) at k)
+  written_below b p = grind (arith, common_steps)
 
   pub written-above : (b : ℕ) → a + length d ≤ b → drop b (written m a d) ≡ drop b m
   written-above b p =
@@ -37,36 +34,9 @@ module _ (m d : List ℕ) (a : ℕ) (h : a + length d ≤ length m) where
       let e : drop (b - (a + length d)) (drop (a + length d) m) ≡ drop (a + length d + (b - (a + length d))) m = drop-drop (b - (a + length d)) (a + length d) m in
       (rw l at f) ∙ g ∙ (rw k at e)
 
-  pub read_below : (i : ℕ) → i < a → get_or (written m a d) i 0 ≡ get_or m i 0
-  read_below i p =
-      get_or-append (take a m) (d ++ drop (a + length d) m) 0 i (rw (length-take-le a m (omega arith)) p) ∙ get_or-take a m i 0 p
-
-  pub read_above : (i : ℕ) → a + length d ≤ i → get_or (written m a d) i 0 ≡ get_or m i 0
-  read_above i p =
-      let e : drop i (written m a d) ≡ drop i m = written-above i p in
-      let z : i + 0 ≡ i = omega arith in
-      let f : get_or (drop i (written m a d)) 0 0 ≡ get_or (written m a d) (i + 0) 0 = get_or-drop i (written m a d) 0 0 in
-      let g : get_or (drop i m) 0 0 ≡ get_or m (i + 0) 0 = get_or-drop i m 0 0 in
-      sym (rw z at f) ∙ ap (λ (l : List ℕ). get_or l 0 0) e ∙ (rw z at g)
-
 -- nothing written
 pub written_none : (m : List ℕ) (a : ℕ) → written m a [] ≡ m
-written_none m a = let z : a + 0 ≡ a = omega arith in rw z (take-append-drop a m)
-
--- one byte more, in front and behind
-pub write_front : (m d : List ℕ) (a x : ℕ) → a + 1 + length d ≤ length m → set (written m (a + 1) d) a x ≡ written m a (x ∷ d)
-write_front m d a x h =
-    let e : a + 1 + length d ≡ a + suc (length d) = omega arith in
-    rw (e, add-one, take-suc m a 0 (omega arith), append_assoc (take a m) (get_or m a 0 ∷ []) (d ++ drop (a + suc (length d)) m))
-    (set_at (take a m) (get_or m a 0) (d ++ drop (a + suc (length d)) m) x a (length-take-le a m (omega arith)))
-
-pub write_back : (m d : List ℕ) (a x : ℕ) → a + length d < length m → set (written m a d) (a + length d) x ≡ written m a (d ++ (x ∷ []))
-write_back m d a x h =
-    let l : length (take a m ++ d) ≡ a + length d = simp (length-append, length-take) (omega arith) in
-    let n : a + length (d ++ (x ∷ [])) ≡ suc (a + length d) = simp length-append (omega arith) in
-    rw (n, drop-cons m (a + length d) 0 h, sym (append_assoc (take a m) d (get_or m (a + length d) 0 ∷ drop (suc (a + length d)) m)))
-    (set_at (take a m ++ d) (get_or m (a + length d) 0) (drop (suc (a + length d)) m) x (a + length d) l
-    ∙ rw (append_assoc (take a m) d (x ∷ drop (suc (a + length d)) m), append_assoc d (x ∷ []) (drop (suc (a + length d)) m)))
+written_none m a = grind (arith, common_steps)
 
 -- ---- the frame
 
@@ -106,56 +76,25 @@ parts_same m m' a k n l p q = both m' ∙ ap (λ (x : List ℕ). x ++ part m' (a
 -- ---- for loops and parts
 
 pub put_written : (t d ys : List ℕ) (a k : ℕ) → ys ≡ d → k ≡ length d → put_mid a k t ys ≡ written t a d
-put_written t d ys a k p q = rw (p, q, drop-drop (length d) a t)
+put_written t d ys a k p q = grind (arith, common_steps)
 
 pub part_length : (m : List ℕ) (a n : ℕ) → a + n ≤ length m → length (part m a n) ≡ n
 part_length m a n h = simp (length-take, length-drop) (omega arith)
 
-part-read : (m : List ℕ) (a n j : ℕ) → j < n → get_or m (a + j) 0 ≡ get_or (part m a n) j 0
-part-read m a n j p = sym (get_or-take n (drop a m) j 0 p ∙ get_or-drop a m j 0)
+-- what std's `copy_within` of the bytes from i to j leaves, in our words
+pub copied_within : (m : List ℕ) (i j a n : ℕ) → j ≡ i + n → i + n ≤ length m → copy_within m i j a ≡ written m a (part m i n)
+copied_within m i j a n e h = grind (arith, common_steps)
 
--- bytes that move down: the next one read and written, and all of them
-module _ (m : List ℕ) (at by n : ℕ) (h : at + by + n ≤ length m) where
-  pub down_step : (j : ℕ) → j < n
-      → set (written m at (take j (part m (at + by) n))) (at + j) (get_or (written m at (take j (part m (at + by) n))) (at + by + j) 0) ≡ written m at (take (j + 1) (part m (at + by) n))
-  down_step j p =
-      let l : length (part m (at + by) n) ≡ n = part_length m (at + by) n h in
-      let k : length (take j (part m (at + by) n)) ≡ j = length-take-le j (part m (at + by) n) (omega arith) in
-      let r : get_or (written m at (take j (part m (at + by) n))) (at + by + j) 0 ≡ get_or (part m (at + by) n) j 0 =
-      read_above m (take j (part m (at + by) n)) at (omega arith) (at + by + j) (omega arith) ∙ part-read m (at + by) n j p in
-      let w : set (written m at (take j (part m (at + by) n))) (at + length (take j (part m (at + by) n))) (get_or (part m (at + by) n) j 0) ≡ written m at (take j (part m (at + by) n) ++ (get_or (part m (at + by) n) j 0 ∷ [])) =
-      write_back m (take j (part m (at + by) n)) at (get_or (part m (at + by) n) j 0) (omega arith) in
-      let f : take (j + 1) (part m (at + by) n) ≡ take j (part m (at + by) n) ++ (get_or (part m (at + by) n) j 0 ∷ []) = rw add-one (take-suc (part m (at + by) n) j 0 (omega arith)) in
-      ap (set (written m at (take j (part m (at + by) n))) (at + j)) r ∙ ap (λ (i : ℕ). set (written m at (take j (part m (at + by) n))) (at + i) (get_or (part m (at + by) n) j 0)) (sym k) ∙ w
-      ∙ ap (written m at) (sym f)
+-- y, and then x right before it
+pub written-before : (d : List ℕ) (a : ℕ) (x y : List ℕ) → a + length x + length y ≤ length d → written (written d (a + length x) y) a x ≡ written d a (x ++ y)
+written-before d a x y h = grind (arith, common_steps)
 
-  pub down_end : (j : ℕ) → n ≤ j → written m at (take j (part m (at + by) n)) ≡ written m at (part m (at + by) n)
-  down_end j p = ap (written m at) (take_all j (part m (at + by) n) (rw (part_length m (at + by) n h) p))
-
-  pub up_start : m ≡ written m (at + by + n) (drop n (part m at n))
-  up_start = rw (drop_of_length-le (part m at n) {i = n} (rw (part_length m at n (omega arith)) (omega arith))) (sym (written_none m (at + by + n)))
-
-  up_one : (k : ℕ) → k < n
-      → set (written m (at + by + k + 1) (drop (suc k) (part m at n))) (at + by + k) (get_or (written m (at + by + k + 1) (drop (suc k) (part m at n))) (at + k) 0) ≡ written m (at + by + k) (drop k (part m at n))
-  up_one k p =
-      let l : length (part m at n) ≡ n = part_length m at n (omega arith) in
-      let q : length (drop (suc k) (part m at n)) ≡ n - suc k = simp length-drop (omega arith) in
-      let r : get_or (written m (at + by + k + 1) (drop (suc k) (part m at n))) (at + k) 0 ≡ get_or (part m at n) k 0 =
-      read_below m (drop (suc k) (part m at n)) (at + by + k + 1) (omega arith) (at + k) (omega arith) ∙ part-read m at n k p in
-      ap (set (written m (at + by + k + 1) (drop (suc k) (part m at n))) (at + by + k)) r
-      ∙ write_front m (drop (suc k) (part m at n)) (at + by + k) (get_or (part m at n) k 0) (omega arith)
-      ∙ ap (written m (at + by + k)) (sym (drop-cons (part m at n) k 0 (omega arith)))
-
-  pub up_step : (j : ℕ) → 0 < j → j ≤ n
-      → set (written m (at + by + j) (drop j (part m at n))) (at + by + (j - 1)) (get_or (written m (at + by + j) (drop j (part m at n))) (at + (j - 1)) 0) ≡ written m (at + by + (j - 1)) (drop (j - 1) (part m at n))
-  up_step zero p q = absurd (omega arith)
-  up_step (suc k) p q =
-      let e : suc k - 1 ≡ k = omega arith in
-      let f : at + by + suc k ≡ at + by + k + 1 = omega arith in
-      rw (e, f) (up_one k (omega arith))
-
-  pub up_end : (j : ℕ) → j ≡ 0 → written m (at + by + j) (drop j (part m at n)) ≡ written m (at + by) (part m at n)
-  up_end j e = let z : at + by + 0 ≡ at + by = omega arith in rw (e, z)
+-- what stands in front, written with it
+written-further : (m y : List ℕ) (a p : ℕ) → a + p ≤ length m → written m (a + p) y ≡ written m a (take p (drop a m) ++ y)
+written-further m y a p h =
+    let l : length (take p (drop a m)) ≡ p = part_length m a p h in
+    let n : a + length (take p (drop a m) ++ y) ≡ a + p + length y = simp length-append (omega arith) in
+    rw (n, take-add a p m) (simp append_assoc)
 
 -- ---- bytes put in and taken out in place
 
@@ -170,49 +109,24 @@ module _ (m : List ℕ) (at len p : ℕ) (h : at + len ≤ length m) where
   part-rest k n q = drop-take k n len (drop at m) q ∙ ap (take n) (drop-drop k at m)
 
   pub spliced-length : (b : List ℕ) → p ≤ len → length (spliced (part m at len) p b) ≡ len + length b
-  spliced-length b q = let l : length (part m at len) ≡ len = part_length m at len h in simp (length-append, length-take, length-drop) (omega arith)
+  spliced-length b q = grind (arith, common_steps)
 
   pub cut-length : (n : ℕ) → p + n ≤ len → length (cut (part m at len) p n) ≡ len - n
-  cut-length n q = let l : length (part m at len) ≡ len = part_length m at len h in simp (length-append, length-take, length-drop) (omega arith)
+  cut-length n q = grind (arith, common_steps)
 
   pub splice_written : (b : List ℕ) → p ≤ len → at + len + length b ≤ length m
       → written (written m (at + p + length b) (part m (at + p) (len - p))) (at + p) b ≡ written m at (spliced (part m at len) p b)
-  splice_written b q r = lhs ∙ sym rhs
-    where
-      lx : length (part m (at + p) (len - p)) ≡ len - p
-      lx = part_length m (at + p) (len - p) (omega arith)
-
-      lhs : written (written m (at + p + length b) (part m (at + p) (len - p))) (at + p) b ≡ take at m ++ (take p (drop at m) ++ (b ++ (part m (at + p) (len - p) ++ drop (at + len + length b) m)))
-      lhs =
-          let e : at + p + length b + length (part m (at + p) (len - p)) ≡ at + len + length b = omega (arith, lx) in
-          let f : take (at + p) (written m (at + p + length b) (part m (at + p) (len - p))) ≡ take at m ++ take p (drop at m) =
-          written_below m (part m (at + p) (len - p)) (at + p + length b) (omega (arith, lx)) (at + p) (omega arith) ∙ take-add at p m in
-          let g : drop (at + p + length b) (written m (at + p + length b) (part m (at + p) (len - p))) ≡ part m (at + p) (len - p) ++ drop (at + len + length b) m =
-          drop_at (take (at + p + length b) m) (part m (at + p) (len - p) ++ drop (at + p + length b + length (part m (at + p) (len - p))) m) (at + p + length b) (length-take-le (at + p + length b) m (omega arith))
-          ∙ ap (λ (n : ℕ). part m (at + p) (len - p) ++ drop n m) e in
-          rw (f, g) (append_assoc (take at m) (take p (drop at m)) (b ++ (part m (at + p) (len - p) ++ drop (at + len + length b) m)))
-
-      rhs : written m at (spliced (part m at len) p b) ≡ take at m ++ (take p (drop at m) ++ (b ++ (part m (at + p) (len - p) ++ drop (at + len + length b) m)))
-      rhs =
-          let e : at + length (spliced (part m at len) p b) ≡ at + len + length b = omega (arith, spliced-length b q) in
-          rw (e, part-front q, part-rest p (len - p) (omega arith)) (simp append_assoc)
+  splice_written b q r =
+      let l : length (part m (at + p) (len - p)) ≡ len - p = part_length m (at + p) (len - p) (omega arith) in
+      written-before m (at + p) b (part m (at + p) (len - p)) (omega arith)
+      ∙ written-further m (b ++ part m (at + p) (len - p)) at p (omega arith)
+      ∙ ap (written m at) (sym (rw (part-front q, part-rest p (len - p) (omega arith)) refl))
 
   pub cut-written : (n : ℕ) → p + n ≤ len → written m (at + p) (part m (at + p + n) (len - p - n)) ≡ written m at (cut (part m at len) p n)
-  cut-written n q = lhs ∙ sym rhs
-    where
-      lx : length (part m (at + p + n) (len - p - n)) ≡ len - p - n
-      lx = part_length m (at + p + n) (len - p - n) (omega arith)
-
-      lhs : written m (at + p) (part m (at + p + n) (len - p - n)) ≡ take at m ++ (take p (drop at m) ++ (part m (at + p + n) (len - p - n) ++ drop (at + (len - n)) m))
-      lhs =
-          let e : at + p + length (part m (at + p + n) (len - p - n)) ≡ at + (len - n) = omega (arith, lx) in
-          rw (e, take-add at p m) (append_assoc (take at m) (take p (drop at m)) (part m (at + p + n) (len - p - n) ++ drop (at + (len - n)) m))
-
-      rhs : written m at (cut (part m at len) p n) ≡ take at m ++ (take p (drop at m) ++ (part m (at + p + n) (len - p - n) ++ drop (at + (len - n)) m))
-      rhs =
-          let e : at + length (cut (part m at len) p n) ≡ at + (len - n) = omega (arith, cut-length n q) in
-          let f : at + (p + n) ≡ at + p + n = omega arith in
-          rw (e, part-front (omega arith), part-rest (p + n) (len - p - n) (omega arith), f) (simp append_assoc)
+  cut-written n q =
+      let e : at + (p + n) ≡ at + p + n = omega arith in
+      written-further m (part m (at + p + n) (len - p - n)) at p (omega arith)
+      ∙ ap (written m at) (sym (rw (part-front (omega arith), part-rest (p + n) (len - p - n) (omega arith), e) refl))
 
 -- bytes written at place a: what stands up to their end, and what stays
 module _ (m m' d : List ℕ) (a : ℕ) (e : m' ≡ written m a d) (h : a + length d ≤ length m) where
@@ -239,26 +153,10 @@ part-behind m x a b n h p = ap (take n) (written-above m x a h b p)
 -- ---- one byte, and then the others
 
 pub written_on : (d : List ℕ) (i x : ℕ) (g : List ℕ) → i < length d → written d i (x ∷ g) ≡ written (set d i x) (i + 1) g
-written_on d i x g h =
-    let e : i + suc (length g) ≡ i + 1 + length g = omega arith in
-    let t : take (i + 1) (set d i x) ≡ take i d ++ (x ∷ []) = rw add-one (take-suc-set d i x h) in
-    let q : drop (i + 1 + length g) (set d i x) ≡ drop (i + 1 + length g) d = drop-set-lt (i + 1 + length g) d i x (omega arith) in
-    rw (e, t, q) (sym (append_assoc (take i d) (x ∷ []) (g ++ drop (i + 1 + length g) d)))
+written_on d i x g h = grind (arith, common_steps)
 
 pub written_last : (d : List ℕ) (i x : ℕ) → i < length d → written d i (x ∷ []) ≡ set d i x
 written_last d i x h = rw add-one (sym (set_split d i x h))
-
--- y, and then x right before it
-pub written-before : (d : List ℕ) (a : ℕ) (x y : List ℕ) → a + length x + length y ≤ length d → written (written d (a + length x) y) a x ≡ written d a (x ++ y)
-written-before d a x y h =
-    let b : ℕ = a + length x in
-    let r : List ℕ = y ++ drop (a + length x + length y) d in
-    let lb : length (take (a + length x) d) ≡ a + length x = length-take-le (a + length x) d (omega arith) in
-    let t : take a (take (a + length x) d ++ (y ++ drop (a + length x + length y) d)) ≡ take a d = take-append-le a (take (a + length x) d) (y ++ drop (a + length x + length y) d) (omega arith) ∙ take-take a (a + length x) d (omega arith) in
-    let q : drop (a + length x) (take (a + length x) d ++ (y ++ drop (a + length x + length y) d)) ≡ y ++ drop (a + length x + length y) d = drop_at (take (a + length x) d) (y ++ drop (a + length x + length y) d) (a + length x) lb in
-    let l : length (x ++ y) ≡ length x + length y = length-append x y in
-    let e : a + (length x + length y) ≡ a + length x + length y = omega arith in
-    rw (t, q, l, e) (ap (λ (z : List ℕ). take a d ++ z) (sym (append_assoc x y (drop (a + length x + length y) d))))
 
 -- what stands there, written there
 pub written_self : (d : List ℕ) (a n : ℕ) → a + n ≤ length d → written d a (take n (drop a d)) ≡ d
@@ -269,15 +167,9 @@ written_self d a n h =
 -- a longer text over what was written
 pub written_over : (d : List ℕ) (a b : ℕ) (v x : List ℕ) → a ≤ b → b + length v ≤ a + length x → a + length x ≤ length d → written (written d b v) a x ≡ written d a x
 written_over d a b v x p q h =
-    let lb : length (take b d) ≡ b = length-take-le b d (omega arith) in
-    let t : take a (take b d ++ (v ++ drop (b + length v) d)) ≡ take a d = take-append-le a (take b d) (v ++ drop (b + length v) d) (omega arith) ∙ take-take a b d p in
-    let w : take b d ++ (v ++ drop (b + length v) d) ≡ (take b d ++ v) ++ drop (b + length v) d = sym (append_assoc (take b d) v (drop (b + length v) d)) in
-    let l : length (take b d ++ v) ≡ b + length v = simp (length-append, lb) in
-    let k : ℕ = a + length x - (b + length v) in
-    let e : b + length v + (a + length x - (b + length v)) ≡ a + length x = omega arith in
-    let o : drop (length (take b d ++ v) + (a + length x - (b + length v))) ((take b d ++ v) ++ drop (b + length v) d) ≡ drop (a + length x - (b + length v)) (drop (b + length v) d) = drop-append-add (take b d ++ v) (drop (b + length v) d) (a + length x - (b + length v)) in
-    let o2 : drop (a + length x) ((take b d ++ v) ++ drop (b + length v) d) ≡ drop (a + length x) d = rw (l, e) at o ∙ drop-drop (a + length x - (b + length v)) (b + length v) d ∙ rw e in
-    rw (t, w, o2)
+    let t : take a (written d b v) ≡ take a d = written_below d v b (omega arith) a p in
+    let u : drop (a + length x) (written d b v) ≡ drop (a + length x) d = written-above d v b (omega arith) (a + length x) q in
+    rw (t, u)
 
 -- three pieces, one after the other
 pub written_three : (d : List ℕ) (at : ℕ) (x y z d1 d2 d3 : List ℕ) (a b : ℕ) → d1 ≡ written d at x → a ≡ at + length x → d2 ≡ written d1 a y → b ≡ a + length y → d3 ≡ written d2 b z → b + length z ≤ length d
@@ -287,20 +179,6 @@ written_three d at x y z d1 d2 d3 a b e1 ea e2 eb e3 h =
     let f : d2 ≡ written d at (x ++ y) = e2 ∙ rw (e1, ea) (written_append d x y at (omega arith)) in
     let q : b ≡ at + length (x ++ y) = omega arith in
     e3 ∙ rw (f, q) (written_append d (x ++ y) z at (omega arith) ∙ ap (written d at) (append_assoc x y z))
-
--- zeros, one by one
-pub zeros-next : (k : ℕ) → 0 < k → ◌≡◌ {A = List ℕ} (noughts k) (0 ∷ noughts (k - 1))
-zeros-next zero h = absurd (omega arith)
-zeros-next (suc k) h = let e : suc k - 1 ≡ k = omega arith in rw e
-
-module _ (d : List ℕ) (i e : ℕ) where
-  pub zeros-written : i < e → e ≤ length d → written d i (noughts (e - i)) ≡ written (set d i 0) (i + 1) (noughts (e - (i + 1)))
-  zeros-written p q =
-      let k : e - i - 1 ≡ e - (i + 1) = omega arith in
-      rw (zeros-next (e - i) (omega arith), k) (written_on d i 0 (noughts (e - (i + 1))) (omega arith))
-
-  pub zeros-done : e ≤ i → written d i (noughts (e - i)) ≡ d
-  zeros-done p = let k : e - i ≡ 0 = omega arith in rw k (written_none d i)
 
 -- one piece more behind what was written
 pub written_more : (d : List ℕ) (at : ℕ) (x y d1 d2 : List ℕ) (a : ℕ) → d1 ≡ written d at x → a ≡ at + length x → d2 ≡ written d1 a y → a + length y ≤ length d

@@ -1,15 +1,14 @@
 -- The rounds of a block by their index. Assumes nothing.
 use mathlib.Core.Path.{◌≡◌, refl, sym, ap, ap₂, subst, ◌∙◌}
 use mathlib.Core.List.{List, [], ◌∷◌, ◌++◌}
-use Prim.Native.Nat.{ℕ, suc, ◌+◌, ◌≤◌, ◌<◌}
+use Prim.Native.Nat.{ℕ, ◌+◌, ◌≤◌, ◌<◌}
 use native.Mathlib.Nat.{add-zero, add_assoc, suc_inj, suc-ne-zero}
 use native.Mathlib.Omega.{arith}
 use lib.ListN.{length, get_or, take, drop, length-append, length-drop}
-use lib.Seq.{take_all, take-add, drop-cons, drop-drop, get_or-take, get_or-drop, length-take-le}
+use lib.Seq.{take_all, take-add, drop-cons, drop-drop, length-take-le}
 use Rattle.sha256.specs.declared.State.{State}
-use Rattle.sha256.specs.declared.constants.Constants.{Constants}
 use Rattle.sha256.specs.Sha256.{k_table, schedule, round_of, rounds, plus, compress}
-use Rattle.sha256.specs.Rounds.{Window, RoundAt, RoundsFrom, constants_of}
+use Rattle.sha256.specs.Rounds.{Window, RoundAt, RoundsFrom}
 use Rattle.sha256.proofs.Words.{schedule-length, window-start}
 
 -- 4.2.2: the constant t
@@ -50,15 +49,13 @@ no_rounds t s w = record {
   window = λ m v. subst (λ (u : ℕ). Window m u w) (sym (add-zero t)) v;
 }
 
-one-round : {k t : ℕ} {s r : State} {w v : List ℕ} → t < 64 → k ≡ K t → RoundAt t k s w r v → RoundsFrom t 1 s w r v
+one-round : {t : ℕ} {s r : State} {w v : List ℕ} → t < 64 → RoundAt t (K t) s w r v → RoundsFrom t 1 s w r v
 unfolding rounds
-one-round {k} {t} {s} l e round = record {
+one-round {t} {s} l round = record {
   words = round.word ∷ [];
   count = refl;
   taken = λ m v. ap (λ (x : ℕ). x ∷ []) (round.takes.word m v) ∙ sym (one_from t (schedule m) (omega (arith, schedule-length m v.block)));
-  done = round.round
-      ∙ ap (λ (c : ℕ). round_of s c round.word) e
-      ∙ ap (λ (ks : List ℕ). rounds ks (round.word ∷ []) s) (sym (one_from t k_table (omega (arith, k_length))));
+  done = round.round ∙ ap (λ (ks : List ℕ). rounds ks (round.word ∷ []) s) (sym (one_from t k_table (omega (arith, k_length))));
   window = round.takes.window;
 }
 
@@ -80,6 +77,11 @@ more_rounds {t} {n} {p} {s} {v = v} b front back = record {
 pub same-rounds : {t u n p : ℕ} {s r : State} {w v : List ℕ} → t ≡ u → n ≡ p → RoundsFrom t n s w r v → RoundsFrom u p s w r v
 same-rounds {s = s} {r} {w} {v} e f = subst (λ (i : ℕ × ℕ). RoundsFrom i.0 i.1 s w r v) (λ i. (e i, f i))
 
+-- one round more, u
+pub round-more : {t n u p : ℕ} {s x r : State} {w y v : List ℕ} → u ≡ t + n → p ≡ n + 1 → u < 64 → RoundsFrom t n s w x y → RoundAt u (K u) x y r v
+    → RoundsFrom t p s w r v
+round-more {t} {n} e f b front round = same-rounds refl (sym f) (more_rounds (omega arith) front (same-rounds e refl (one-round b round)))
+
 -- all 64: the sums are left
 pub compressed : (m : List ℕ) (s r : State) (w : List ℕ) → length m ≡ 16 → RoundsFrom 0 64 s m r w → plus r s ≡ compress m s
 unfolding compress
@@ -88,31 +90,3 @@ compressed m s r w l all =
     (all.done
     ∙ ap₂ (λ (k v : List ℕ). rounds k v s) (take_all 64 k_table (omega (arith, k_length)))
     (all.taken m (window-start m l) ∙ take_all 64 (schedule m) (omega (arith, schedule-length m l))))
-
--- ---- sixteen calls
-
--- calls one after the other, from round t + n on, with the constants ks
-infixr 40 ◌then◌
-pub data Chain (t : ℕ) : ℕ → List ℕ → State → List ℕ → State → List ℕ → Type 0 where
-  none : {n : ℕ} {s : State} {w : List ℕ} → Chain t n [] s w s w
-  ◌then◌ : {n k : ℕ} {ks : List ℕ} {s x r : State} {w y v : List ℕ} → RoundAt (t + n) k s w x y → Chain t (n + 1) ks x y r v → Chain t n (k ∷ ks) s w r v
-
-chained : {t n : ℕ} {ks : List ℕ} {s r : State} {w v : List ℕ} → Chain t n ks s w r v → ((i : ℕ) → i < length ks → get_or ks i 0 ≡ K (t + n + i))
-    → t + n + length ks ≤ 64 → RoundsFrom (t + n) (length ks) s w r v
-chained {t} {n} (none {s = s} {w = w}) known b = no_rounds (t + n) s w
-chained {t} {n} (◌then◌ {k = k} {ks = ks} round rest) known b =
-    let first : k ≡ K (t + n) = known 0 (omega arith) ∙ ap K (add-zero (t + n)) in
-    let others : (i : ℕ) → i < length ks → get_or ks i 0 ≡ K (t + (n + 1) + i) = λ i l. known (suc i) (omega arith) ∙ ap K (omega arith) in
-    let on : t + (n + 1) ≡ t + n + 1 = omega arith in
-    let count : 1 + length ks ≡ suc (length ks) = omega arith in
-    same-rounds refl count
-    (more_rounds (omega arith) (one-round (omega arith) first round) (same-rounds on refl (chained rest others (omega arith))))
-
--- with the constants of the code
-pub sixteen : (t n : ℕ) (k : Constants) {s r : State} {w v : List ℕ} → constants_of k ≡ take 16 (drop (t + n) k_table) → t + n ≤ 48
-    → Chain t n (constants_of k) s w r v → RoundsFrom (t + n) 16 s w r v
-unfolding constants_of
-sixteen t n k e b c =
-    chained c
-    (λ i l. ap (λ (ks : List ℕ). get_or ks i 0) e ∙ get_or-take 16 (drop (t + n) k_table) i 0 l ∙ get_or-drop (t + n) k_table i 0)
-    (omega arith)

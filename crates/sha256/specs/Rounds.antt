@@ -1,7 +1,6 @@
 -- The rounds of one block, with sixteen of its words kept (document 02, Less stack for the digest). Section numbers are those of FIPS 180-4. Assumes nothing.
-use Rattle.std.specs.Prelude.{ℕ, ◌+◌, ◌-◌, ◌%◌, ◌<◌, ◌≡◌, List, [], ◌∷◌, length, get_or, take, drop}
+use Rattle.std.specs.Prelude.{ℕ, ◌+◌, ◌-◌, ◌%◌, ◌<◌, ◌≡◌, List, length, get_or, take, drop}
 use Rattle.sha256.specs.declared.State.{State}
-use Rattle.sha256.specs.declared.constants.Constants.{Constants}
 use Rattle.sha256.specs.Sha256.{k_table, schedule, round_of, rounds}
 
 -- 6.2.2, step 1: the word t of the block m, for t from 0 to 63
@@ -33,9 +32,3 @@ pub record RoundsFrom (t n : ℕ) (s : State) (w : List ℕ) (r : State) (w' : L
   pub taken : (m : List ℕ) → Window m t w → words ≡ take n (drop t (schedule m))
   pub done : r ≡ rounds (take n (drop t k_table)) words s
   pub window : (m : List ℕ) → Window m t w → Window m (t + n) w'
-
--- the constants of the code's struct
-unfoldable pub constants_of : Constants → List ℕ
-constants_of k =
-    k.k0 ∷ k.k1 ∷ k.k2 ∷ k.k3 ∷ k.k4 ∷ k.k5 ∷ k.k6 ∷ k.k7 ∷
-    k.k8 ∷ k.k9 ∷ k.k10 ∷ k.k11 ∷ k.k12 ∷ k.k13 ∷ k.k14 ∷ k.k15 ∷ []

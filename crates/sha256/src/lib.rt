@@ -13,7 +13,7 @@ ghost use Rattle.sha256.specs.Sha256.{hash_value, sha256, hash16};
 
 use crate::compress::absorb;
 use crate::constants::H;
-use crate::output::{output, output16};
+use crate::output::output;
 use crate::parse::load;
 
 // The eight working variables, or the eight words of the hash value.
@@ -35,10 +35,8 @@ fn hash_value(m: &[u8]) -> State
 {
     let end = m.len() + 1 + (119 - m.len() % 64) % 64;
     let mut s = H;
-    let mut at = 0;
-    while at < end {
-        s = absorb(s, load(m, at, end));
-        at += 64;
+    for block in 0..(end + 8) / 64 {
+        s = absorb(s, load(m, 64 * block, end));
     }
     s
 }
@@ -54,7 +52,7 @@ pub fn digest(m: &[u8]) -> [u8; 32]
 pub fn hash16(m: &[u8]) -> [u8; 16]
     ensures { result ≡ hash16 m.now }
 {
-    output16(hash_value(m))
+    *digest(m).first_chunk().unwrap()
 }
 
 // The SHA-256 of m for programs in other languages.

@@ -1,13 +1,6 @@
 // The message, padded and parsed into blocks (FIPS 180-4, 5.1.1 and 5.2.1).
-ghost use Rattle.std.specs.Prelude.{◌≡◌, [], ◌∷◌, ◌++◌, ◌+◌, ◌*◌, ◌%◌, ◌^◌, ◌≤◌, ◌<◌, length, get_or};
+ghost use Rattle.std.specs.Prelude.{◌≡◌, [], ◌∷◌, ◌++◌, ◌+◌, ◌%◌, ◌^◌, ◌≤◌, ◌<◌, length, get_or};
 ghost use Rattle.sha256.specs.Sha256.{end_of, word_at, block_at, pad};
-
-// Four bytes as a word, the highest first.
-fn word(x: u8, y: u8, z: u8, u: u8) -> u32
-    ensures { result ≡ x * 2 ^ 24 + y * 2 ^ 16 + z * 2 ^ 8 + u }
-{
-    x as u32 * 16777216 + y as u32 * 65536 + z as u32 * 256 + u as u32
-}
 
 // The byte at i of m and 0x80 after it, and 0 after that.
 fn byte_at(m: &[u8], i: usize) -> u8
@@ -28,14 +21,14 @@ fn word_at(m: &[u8], i: usize, end: usize) -> u32
     ensures { result ≡ word_at (pad m.now) i }
 {
     if i + 4 <= m.len() {
-        word(m[i], m[i + 1], m[i + 2], m[i + 3])
+        u32::from_be_bytes([m[i], m[i + 1], m[i + 2], m[i + 3]])
     } else if i < end {
-        word(
+        u32::from_be_bytes([
             byte_at(m, i),
             byte_at(m, i + 1),
             byte_at(m, i + 2),
             byte_at(m, i + 3),
-        )
+        ])
     } else if i == end {
         (m.len() / 536870912 % 4294967296) as u32
     } else {
@@ -43,7 +36,7 @@ fn word_at(m: &[u8], i: usize, end: usize) -> u32
     }
 }
 
-// The block at byte `at` of m as it is padded.
+// The block at byte `at` of m as it is padded. No loop: the array that it filled would be copied, with 76 bytes of stack more.
 pub fn load(m: &[u8], at: usize, end: usize) -> [u32; 16]
     requires { (end ≡ end_of (length m.now)) × (end + 64 < 2 ^ 64) × (at % 64 ≡ 0) × (at + 64 ≤ end + 8) }
     ensures { result ≡ block_at (pad m.now) at }

@@ -5,24 +5,16 @@ ghost use Rattle.std.specs.Prelude.{◌≡◌, ◌≤◌, length};
 
 use std::io::{Result, Stdout};
 
-fn wide(x: u8) -> u64 {
-    x as u64
-}
-
 // A digest as a line of hexadecimal digits.
 fn print(out: Stdout, d: &[u8]) -> Result<()> {
-    let mut i = 0;
-    while i < d.len() {
-        let byte = wide(d[i]);
+    for byte in d {
         print!(out; "{byte:02x}")?;
-        i += 1;
     }
-    out.write_all(b"\n")
+    println!(out)
 }
 
 fn show(out: Stdout, m: &[u8]) -> Result<()> {
-    let d = sha256::digest(m);
-    print(out, &d)
+    print(out, &sha256::digest(m))
 }
 
 // The example messages, of 3, 56, 112 and 0 bytes.
@@ -41,21 +33,17 @@ fn show_examples(out: Stdout) -> Result<()> {
 
 // Byte i becomes i mod 251.
 fn fill(d: &mut [u8]) {
-    let mut i = 0;
-    while i < d.len() {
-        d[i] = (i % 251) as u8;
-        i += 1;
+    for (i, byte) in d.iter_mut().enumerate() {
+        *byte = (i % 251) as u8;
     }
 }
 
 // The first n bytes of m, for each n from `first` to `last`.
 fn show_lengths(out: Stdout, m: &[u8], first: usize, last: usize) -> Result<()>
-    requires { (first ≤ last) × (last ≤ length m.now) }
+    requires { last ≤ length m.now }
 {
-    let mut n = first;
-    while n <= last {
+    for n in first..=last {
         show(out, &m[..n])?;
-        n += 1;
     }
     Ok(())
 }

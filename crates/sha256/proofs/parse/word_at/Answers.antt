@@ -8,12 +8,12 @@ use Rattle.sha256.proofs.parse.word_at.Goals as goal
 
 pub returns-then-i-m : goal.returns-then-i-m
 returns-then-i-m c =
-    c.word.ensures ∙ word_by (pad c.args.m.now) c.args.i (pad_data c.args.m.now c.args.i (omega arith)) (pad_data c.args.m.now (c.args.i + 1) (omega arith)) (pad_data c.args.m.now (c.args.i + 2) (omega arith)) (pad_data c.args.m.now (c.args.i + 3) (omega arith))
+    c.from_be_bytes.ensures ∙ word_by (pad c.args.m.now) c.args.i (pad_data c.args.m.now c.args.i (omega arith)) (pad_data c.args.m.now (c.args.i + 1) (omega arith)) (pad_data c.args.m.now (c.args.i + 2) (omega arith)) (pad_data c.args.m.now (c.args.i + 3) (omega arith))
 
 pub returns-then-i-end : goal.returns-then-i-end
 returns-then-i-end c =
     let in-front : c.args.i + 3 < end_of (length c.args.m.now) = omega (arith, end_aligned (length c.args.m.now), c.requires) in
-    c.word-then-i-end.ensures
+    c.from_be_bytes-then-i-end.ensures
     ∙ word_by (pad c.args.m.now) c.args.i (pad-front c.args.m.now c.args.i (omega arith) ∙ sym c.byte_at.ensures)
     (pad-front c.args.m.now (c.args.i + 1) (omega arith) ∙ sym c.byte_at-then-i-end.ensures)
     (pad-front c.args.m.now (c.args.i + 2) (omega arith) ∙ sym c.byte_at-then-i-end-2.ensures)
