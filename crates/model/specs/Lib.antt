@@ -11,6 +11,7 @@ pub mod Messages
 pub mod Decide
 pub mod Handle
 pub mod Refusals
+pub mod Numbers
 pub mod Begin
 pub mod Receive
 pub mod Tick

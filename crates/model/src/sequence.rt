@@ -6,12 +6,12 @@ ghost use Rattle.model.specs.Sequence.{older, advance};
 pub fn is_older(a: u32, b: u32) -> bool
     ensures { result ≡ older a b }
 {
-    2147483648 <= std::num::wrapping_sub_u32(a, b)
+    0x8000_0000 <= a.wrapping_sub(b)
 }
 
 // n + k modulo 2^32.
 pub fn advanced(n: u32, k: u32) -> u32
     ensures { result ≡ advance n k }
 {
-    ((n as u64 + k as u64) % 4294967296) as u32
+    n.wrapping_add(k)
 }

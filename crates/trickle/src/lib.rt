@@ -10,7 +10,7 @@ use model::figures::{GREATEST_INTERVAL, LEAST_INTERVAL, MOST_COUNT, REDUNDANCY};
 
 // When an endpoint sends: at start + point, unless an equal digest was heard since start.
 #[repr(C)]
-#[derive(Clone, Copy)]
+#[derive(Clone, Copy, PartialEq, Eq, Debug)]
 pub struct Trickle {
     // The reading at which the interval began.
     pub start: u64,
@@ -23,7 +23,7 @@ pub struct Trickle {
 }
 
 // What a tick brings: whether to send, and the state after it.
-#[derive(Clone, Copy)]
+#[derive(Clone, Copy, PartialEq, Eq, Debug)]
 pub struct Event {
     pub sends: bool,
     pub next: Trickle,
@@ -38,7 +38,7 @@ impl Trickle {
         let half = interval / 2;
         Trickle {
             start: clock,
-            point: half + (random as u64) % half,
+            point: half + u64::from(random) % half,
             interval,
             count: 0,
             spent: false,
@@ -49,13 +49,10 @@ impl Trickle {
     pub fn hear(self) -> Trickle
         ensures { trickle_of result ≡ hear (trickle_of self) }
     {
-        let mut next = self;
-        if next.count < MOST_COUNT {
-            next.count += 1;
-        } else {
-            next.count = MOST_COUNT;
+        Trickle {
+            count: self.count.saturating_add(1).min(MOST_COUNT),
+            ..self
         }
-        next
     }
 
     // The network digest has changed.
@@ -63,9 +60,10 @@ impl Trickle {
         ensures { trickle_of result ≡ reset clock random (trickle_of self) }
     {
         if LEAST_INTERVAL < self.interval {
-            return Trickle::fresh(clock, LEAST_INTERVAL, random);
+            Trickle::fresh(clock, LEAST_INTERVAL, random)
+        } else {
+            self
         }
-        self
     }
 
     // The interval after this one, twice as long up to the greatest.
@@ -73,11 +71,7 @@ impl Trickle {
         requires { Small self }
         ensures { trickle_of result ≡ fresh clock (min (self.interval * 2) greatest_interval) random }
     {
-        let twice = self.interval * 2;
-        if twice < GREATEST_INTERVAL {
-            return Trickle::fresh(clock, twice, random);
-        }
-        Trickle::fresh(clock, GREATEST_INTERVAL, random)
+        Trickle::fresh(clock, (self.interval * 2).min(GREATEST_INTERVAL), random)
     }
 
     // The send point is unspent, and now is at or past it.
@@ -85,10 +79,7 @@ impl Trickle {
         requires { Small self }
         ensures { result ≡ point_due clock (trickle_of self) }
     {
-        if self.spent {
-            return false;
-        }
-        self.start + self.point <= clock
+        !self.spent && self.start + self.point <= clock
     }
 
     // Neither the send point nor the interval's end is due.
@@ -96,10 +87,7 @@ impl Trickle {
         requires { Small self }
         ensures { result ≡ is_idle clock (trickle_of self) }
     {
-        if self.is_due(clock) {
-            return false;
-        }
-        clock < self.start + self.interval
+        !self.is_due(clock) && clock < self.start + self.interval
     }
 
     // At most one event: the send point, else the interval's end.
@@ -108,22 +96,23 @@ impl Trickle {
         ensures { event_of result ≡ event clock random (trickle_of self) }
     {
         if self.is_due(clock) {
-            let mut next = self;
-            next.spent = true;
-            return Event {
+            Event {
                 sends: self.count < REDUNDANCY,
-                next,
-            };
-        }
-        if self.start + self.interval <= clock {
-            return Event {
+                next: Trickle {
+                    spent: true,
+                    ..self
+                },
+            }
+        } else if self.start + self.interval <= clock {
+            Event {
                 sends: false,
                 next: self.doubled(clock, random),
-            };
-        }
-        Event {
-            sends: false,
-            next: self,
+            }
+        } else {
+            Event {
+                sends: false,
+                next: self,
+            }
         }
     }
 }

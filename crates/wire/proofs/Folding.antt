@@ -1,22 +1,12 @@
 -- Signed amounts folded into unsigned numbers. Assumes nothing.
 use Prim.Native.Nat.{ℕ, ◌+◌, ◌*◌, ◌/◌, ◌%◌}
 use mathlib.Core.Path.{◌≡◌, sym, ap, ◌∙◌}
-use mathlib.Core.Bool.{true, false}
 use native.Mathlib.Omega.{arith}
 use lib.Dec.{eqb}
 use lib.IntN.{ℤ, pos, negsuc}
-use lib.Signed.{mag, lt_z}
-use borrow.Author.Tests.{ltb-true, eq-eqb, ne_eqb, eqb-true, eqb-false}
+use borrow.Author.Tests.{eq-eqb, ne_eqb, eqb-true, eqb-false}
 use Rattle.wire.specs.Payment.{folded, unfolded}
 use Rattle.base.proofs.Tests.{by_test}
-
-pub folded_neg : (x : ℤ) → lt_z x (pos 0) ≡ true → mag x * 2 + 1 ≡ folded x
-folded_neg (pos a) e = absurd (omega (arith, ltb-true a 0 e))
-folded_neg (negsuc a) e = omega arith
-
-pub folded-pos : (x : ℤ) → lt_z x (pos 0) ≡ false → mag x * 2 ≡ folded x
-folded-pos (pos a) e = omega arith
-folded-pos (negsuc a) e = absurd (let z : ◌≡◌ {A = ℕ} 0 1 = cc in omega arith)
 
 pub unfold_even : (n : ℕ) → n % 2 ≡ 0 → pos (n / 2) ≡ unfolded n
 unfolding unfolded

@@ -6,3 +6,4 @@ pub mod Varints
 pub mod Folding
 pub mod Payments
 pub mod Encoded
+pub mod Steps

@@ -10,14 +10,11 @@ use lib.Dec.{leb}
 use lib.IntN.{ℤ, pos, negsuc, ◌+ℤ◌}
 use lib.Signed.{mag}
 use borrow.Author.Tests.{le-leb, lt-leb, leb-true}
-use Rattle.wire.specs.declared.groups.Groups.{Groups}
-use Rattle.wire.specs.declared.groups.Groups.TheVariants.{Value, Bad}
 use Rattle.base.specs.Bytes.{Bytes, most_u32}
 use Rattle.base.specs.Lists.{or_else, All}
 use Rattle.base.specs.Memory.{written}
 use Rattle.wire.specs.Groups.{Read, groups, read_groups}
 use Rattle.wire.specs.Payment.{Payment, Payable, amount_limit, most_household, folded, unfolded, payment_value, ended, read_payment}
-use Rattle.wire.specs.Answers.{as_read, Inside}
 use Rattle.base.specs.Signed.{sumℤ}
 use Rattle.base.proofs.Tests.{and_left, and_right, and_no, and_both, by_test}
 use Rattle.base.proofs.Options.{nothing, cond_yes, or_else_some}
@@ -26,17 +23,6 @@ use Rattle.base.proofs.Bytes.{bytes_right}
 use Rattle.wire.proofs.Varints.{got, read-written, read-once, read-most}
 use Rattle.wire.proofs.Folding.{unfold_fold, fold_unfold}
 use Rattle.base.proofs.Written.{written_three}
-
--- ---- what the group reader's answer says
-
-pub as_value : (s : List ℕ) (g : Groups) (o : Option Read) (n e : ℕ) → as_read s g ≡ o → g ≡ Value n e → o ≡ got n (drop e s)
-as_value s g o n e p q = sym p ∙ ap (as_read s) q
-
-pub as_bad : (s : List ℕ) (g : Groups) (o : Option Read) → as_read s g ≡ o → g ≡ Bad → o ≡ none
-as_bad s g o p q = sym p ∙ ap (as_read s) q
-
-pub inside-value : (s : List ℕ) (at m : ℕ) (g : Groups) (n e : ℕ) → Inside s at m g → g ≡ Value n e → (at < e) × (e ≤ length s) × (n ≤ m)
-inside-value s at m g n e h q = subst (λ (x : Groups). Inside s at m x) q h
 
 -- ---- reading, number by number
 
@@ -105,33 +91,36 @@ payment-back p k =
     ∙ ended_well p.household p.receipt (folded p.amount) [] refl k.low k.high ∙ rw (unfold_fold p.amount)
 
 -- the code's three readings
-module _ (s : List ℕ) (g1 : Groups) (h a : ℕ) (e1 : as_read s g1 ≡ read_groups most_u32 s) (q1 : g1 ≡ Value h a) where
+module _ (s : List ℕ) (h a : ℕ) (e1 : got h (drop a s) ≡ read_groups most_u32 s) where
   pub one-read : read_payment s ≡ after_one h (drop a s)
-  one-read = first_on s h (drop a s) (as_value s g1 (read_groups most_u32 s) h a e1 q1)
+  one-read = first_on s h (drop a s) (sym e1)
 
-  module _ (g2 : Groups) (r b : ℕ) (e2 : as_read s g2 ≡ read_groups most_u32 (drop a s)) (q2 : g2 ≡ Value r b) where
+  module _ (r b : ℕ) (e2 : got r (drop b s) ≡ read_groups most_u32 (drop a s)) where
     pub two_read : read_payment s ≡ after_two h r (drop b s)
-    two_read = one-read ∙ second_on h (drop a s) r (drop b s) (as_value s g2 (read_groups most_u32 (drop a s)) r b e2 q2)
+    two_read = one-read ∙ second_on h (drop a s) r (drop b s) (sym e2)
 
-    pub three_read : (g3 : Groups) (f e : ℕ) → as_read s g3 ≡ read_groups most_u32 (drop b s) → g3 ≡ Value f e → read_payment s ≡ ended h r f (drop e s)
-    three_read g3 f e e3 q3 = two_read ∙ third_on h r (drop b s) f (drop e s) (as_value s g3 (read_groups most_u32 (drop b s)) f e e3 q3)
+    pub three_read : (f e : ℕ) → got f (drop e s) ≡ read_groups most_u32 (drop b s) → read_payment s ≡ ended h r f (drop e s)
+    three_read f e e3 = two_read ∙ third_on h r (drop b s) f (drop e s) (sym e3)
 
 -- the three numbers that the code writes are the value
 module _ (d : List ℕ) (at : ℕ) (p : Payment) (d1 d2 d3 : List ℕ) (a b e f : ℕ)
     (e1 : d1 ≡ written d at (groups p.household)) (ea : a ≡ at + length (groups p.household))
     (e2 : d2 ≡ written d1 a (groups p.receipt)) (eb : b ≡ a + length (groups p.receipt))
     (e3 : d3 ≡ written d2 b (groups f)) (ee : e ≡ b + length (groups f)) (ef : f ≡ folded p.amount) (fits : e ≤ length d) where
-  pub value-put : d3 ≡ written d at (payment_value p)
+  value-put : d3 ≡ written d at (payment_value p)
   unfolding payment_value
   value-put = written_three d at (groups p.household) (groups p.receipt) (groups f) d1 d2 d3 a b e1 ea e2 eb e3 (omega arith) ∙ rw ef
 
-  pub value_end : e ≡ at + length (payment_value p)
+  value_end : e ≡ at + length (payment_value p)
   unfolding payment_value
   value_end =
       let l1 = length-append (groups p.household) (groups p.receipt ++ groups (folded p.amount)) in
       let l2 = length-append (groups p.receipt) (groups (folded p.amount)) in
       let q : length (groups f) ≡ length (groups (folded p.amount)) = rw ef in
       omega arith
+
+  pub value-written : (d3 ≡ written d at (payment_value p)) × (e ≡ at + length (payment_value p))
+  value-written = (value-put, value_end)
 
 -- ---- in one way only
 

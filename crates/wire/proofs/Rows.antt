@@ -1,19 +1,20 @@
 -- Rows by their next TLV. Assumes nothing.
 use mathlib.Core.Path.{◌≡◌, refl, sym, ap, ◌∙◌}
-use mathlib.Core.Bool.{Bool, true, false, cond}
+use mathlib.Core.Bool.{true, false, ◌&&◌}
 use mathlib.Core.List.{List, [], ◌∷◌}
 use mathlib.Core.Option.{Option, none, some}
 use Prim.Native.Nat.{ℕ, zero, suc, ◌+◌, ◌-◌, ◌<◌, ◌≤◌}
 use native.Mathlib.Omega.{arith}
 use lib.ListN.{length, take, drop, length-drop}
 use lib.Seq.{take-take, drop-drop}
-use lib.Dec.{leb}
+use lib.Dec.{leb, eqb}
+use Rattle.std.specs.List.{list_all}
 use borrow.Author.Tests.{le-leb, lt-leb, leb-true}
 use Rattle.base.specs.Bytes.{u16_at, u32_at, zeros}
 use Rattle.base.specs.Lists.{or_else, cons_to}
 use Rattle.wire.specs.Row.{type_of, length_of, value_of, padding, size_of, heads, row_of, row, is_row, tlvs}
 use Rattle.wire.specs.declared.row.Header.{Header}
-use Rattle.wire.specs.Answers.{tlv_of, Size, Tells}
+use Rattle.wire.specs.Answers.{tlv_of, SizeIs, Tells}
 use Rattle.base.proofs.Tests.{no_way, and_left, and_right, and_both, and_no, by_test}
 use Rattle.base.proofs.Bytes.{u16_drop, u16_take, u32_part}
 use Rattle.base.proofs.Lists.{drop-take, part-is}
@@ -149,24 +150,6 @@ module _ (s : List ℕ) (p : 0 < length s) (r : is_row s ≡ true) where
 
 -- ---- the same from a place on, as code goes
 
-cond-none : (b : Bool) (m n : ℕ) → 0 < m → n ≡ cond b m 0 → n ≡ 0 → b ≡ false
-cond-none true m n p e z = absurd (omega arith)
-cond-none false m n p e z = refl
-
-cond-some : (b : Bool) (m n : ℕ) → n ≡ cond b m 0 → (n ≡ 0 → ⊥) → b ≡ true
-cond-some true m n e z = refl
-cond-some false m n e z = absurd (z e)
-
-module _ (s : List ℕ) (n : ℕ) (z : Size s n) where
-  pub size_none : n ≡ 0 → heads s ≡ false
-  size_none e = let k : 4 ≤ size_of s = size-least s in cond-none (heads s) (size_of s) n (omega arith) z.is e
-
-  pub size-some : (n ≡ 0 → ⊥) → heads s ≡ true
-  size-some e = cond-some (heads s) (size_of s) n z.is e
-
-  pub size_is : (n ≡ 0 → ⊥) → n ≡ size_of s
-  size_is e = z.is ∙ rw (size-some e)
-
 module _ (s : List ℕ) (at : ℕ) where
   pub left_end : length s ≤ at → is_row (drop at s) ≡ true
   left_end p = is_end (drop at s) (simp length-drop (omega arith))
@@ -189,9 +172,9 @@ module _ (s : List ℕ) (at : ℕ) where
       left-fits = let f : size_of (drop at s) ≤ length (drop at s) = heads_fits (drop at s) left-heads in let l : length (drop at s) ≡ length s - at = length-drop at s in omega arith
 
       -- what the code works out of the bytes is what the definitions say
-      pub tells : (h : Header) → h.kind ≡ u16_at s at → h.len ≡ u16_at s (at + 2) → h.start ≡ at + 4 → h.next ≡ at + 4 + (h.len + padding h.len) → Tells s at h
+      pub tells : (h : Header) → h.at ≡ at → h.kind ≡ u16_at s at → h.len ≡ u16_at s (at + 2) → h.start ≡ at + 4 → h.next ≡ at + 4 + (h.len + padding h.len) → Tells s at h
       unfolding type_of length_of size_of
-      tells h k l b e =
+      tells h a k l b e =
           let d = drop at s in
           let e0 : at + 0 ≡ at = omega arith in
           let kd : h.kind ≡ type_of (drop at s) = k ∙ sym (rw e0 at (u16_drop s at 0)) in
@@ -199,6 +182,7 @@ module _ (s : List ℕ) (at : ℕ) where
           let q : h.next ≡ at + size_of (drop at s) = e ∙ rw ld (omega arith) in
           let w : take (h.next - at) (drop at s) ≡ take (size_of (drop at s)) (drop at s) = part-is s at h.next (size_of (drop at s)) q in
           record {
+            here = a;
             kind = rw w (kd ∙ sym (type_take (drop at s) (size_of (drop at s)) (size-least (drop at s))));
             value = rw w (value-take (drop at s) left-heads ∙ rw (drop-drop 4 at s, ld, b));
             start = b;
@@ -220,16 +204,18 @@ module _ (s : List ℕ) (at : ℕ) (h : Header) (k : Tells s at h) where
   pub value-first : 4 ≤ h.len → u32_at (value_of (tlv_of s at h)) 0 ≡ u32_at s h.start
   value-first l = let e : h.start + 0 ≡ h.start = omega arith in value-number 0 l ∙ rw e
 
+-- every byte is zero, as an iterator tests it
+pub zeros-all : (s : List ℕ) → list_all (λ b. eqb b 0) s ≡ zeros s
+zeros-all [] = refl
+zeros-all (b ∷ s) = ap (λ z. eqb b 0 && z) (zeros-all s)
+
 -- what the code finds at a place
 module _ (s : List ℕ) (at : ℕ) (h : at ≤ length s) where
   left-length : length (drop at s) ≡ length s - at
   left-length = length-drop at s
 
-  none-there : heads (drop at s) ≡ false → Size (drop at s) 0
-  none-there e = record { is = rw e; within = omega arith }
-
-  pub size-short : length s - at < 4 → Size (drop at s) 0
-  size-short p = none-there (heads-short (drop at s) (omega (arith, left-length)))
+  pub size-short : length s - at < 4 → heads (drop at s) ≡ false
+  size-short p = heads-short (drop at s) (omega (arith, left-length))
 
   module _ (n k : ℕ) (en : n ≡ u16_at s (at + 2)) (ek : k ≡ padding n) where
     its_length : length_of (drop at s) ≡ n
@@ -243,19 +229,24 @@ module _ (s : List ℕ) (at : ℕ) (h : at ≤ length s) where
     its_zeros : zeros (take (padding (length_of (drop at s))) (drop (4 + length_of (drop at s)) (drop at s))) ≡ zeros (take k (drop (at + 4 + n) s))
     its_zeros = let q : at + (4 + n) ≡ at + 4 + n = omega arith in rw (its_length, sym ek, drop-drop (4 + n) at s, q)
 
-    pub size-cut : length s - at - 4 < n + k → 4 ≤ length s - at → Size (drop at s) 0
-    size-cut p f = none-there (heads-cut (drop at s) (omega (arith, left-length, its_size)))
+    pub size-cut : length s - at - 4 < n + k → 4 ≤ length s - at → heads (drop at s) ≡ false
+    size-cut p f = heads-cut (drop at s) (omega (arith, left-length, its_size))
 
-    pub size_dirty : zeros (take k (drop (at + 4 + n) s)) ≡ false → Size (drop at s) 0
-    size_dirty z = none-there (heads_dirty (drop at s) (its_zeros ∙ z))
+    pub size_dirty : zeros (take k (drop (at + 4 + n) s)) ≡ false → heads (drop at s) ≡ false
+    size_dirty z = heads_dirty (drop at s) (its_zeros ∙ z)
 
-    pub size-full : 4 ≤ length s - at → n + k ≤ length s - at - 4 → zeros (take k (drop (at + 4 + n) s)) ≡ true → Size (drop at s) (4 + n + k)
+    pub size-full : 4 ≤ length s - at → n + k ≤ length s - at - 4 → zeros (take k (drop (at + 4 + n) s)) ≡ true → SizeIs (drop at s) (4 + n + k)
     size-full f p z =
         let l = left-length in
         let w = its_size in
-        let a : heads (drop at s) ≡ true = heads_made (drop at s) (omega arith) (omega arith) (its_zeros ∙ z) in
-        let e : 4 + n + k ≡ size_of (drop at s) = omega arith in
-        record { is = e ∙ rw a; within = omega arith }
+        record { heads = heads_made (drop at s) (omega arith) (omega arith) (its_zeros ∙ z); is = omega arith; within = omega arith }
+
+-- the next TLV is further on, and within
+pub size-onward : (s : List ℕ) (at n : ℕ) → at ≤ length s → SizeIs (drop at s) n → (at < at + n) × (at + n ≤ length s)
+size-onward s at n p z =
+    let l : length (drop at s) ≡ length s - at = length-drop at s in
+    let k : 4 ≤ size_of (drop at s) = size-least (drop at s) in
+    (omega (arith, z.is), omega (arith, z.within))
 
 -- a header stands where a row goes on
 pub four-left : (s : List ℕ) (at : ℕ) → at < length s → is_row (drop at s) ≡ true → at + 4 ≤ length s

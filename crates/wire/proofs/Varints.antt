@@ -4,7 +4,7 @@ use mathlib.Core.List.{List, [], ◌∷◌, ◌++◌}
 use mathlib.Core.Option.{Option, none, some}
 use Prim.Native.Nat.{ℕ, zero, suc, ◌+◌, ◌-◌, ◌*◌, ◌/◌, ◌%◌, ◌^◌, ◌≤◌, ◌<◌}
 use native.Mathlib.Omega.{arith}
-use native.Mathlib.Nat.{mul-le-mul_right, mul-le-mul_left, mul-add, mul_assoc, mul_comm, pow-suc}
+use native.Mathlib.Nat.{mul-le-mul_left, mul-add, mul_assoc, mul_comm, pow-suc}
 use lib.ListN.{length, get_or, drop, drop_of_length-le}
 use lib.Dec.{ltb, leb}
 use borrow.Author.Tests.{lt-ltb, le-ltb, le-leb, lt-leb, leb-true, ltb-true, ltb-false}
@@ -204,9 +204,6 @@ onward-sum most a k least d h = over-sum most a k (any_groups least d) h
 pub onward_scale : (most a k : ℕ) (d : List ℕ) → most < k → onward most a k 1 d ≡ none
 unfolding onward
 onward_scale most a k d h = over_scale most a k (any_groups 1 d) (any_positive d) h
-
-pub small_times : (b k m : ℕ) → b ≤ m → b * k ≤ m * k
-small_times b k m h = mul-le-mul_right k h
 
 pub large_length : (n : ℕ) → 128 ≤ n → length (groups n) ≡ 1 + length (groups (n / 128))
 large_length n h = rw (groups_large n h) (omega arith)

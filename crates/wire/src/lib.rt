@@ -2,6 +2,8 @@
 #![tactic(auto)]
 
 pub mod groups;
+pub mod kind;
 pub mod order;
 pub mod payment;
 pub mod row;
+pub mod tlvs;

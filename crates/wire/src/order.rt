@@ -1,47 +1,13 @@
 // TLVs compared byte by byte, good node data, and where a TLV stands in it.
 ghost use Rattle.std.specs.Prelude.{◌≡◌, true, ◌≤◌, length};
-ghost use Rattle.base.specs.Bytes.{same};
 ghost use Rattle.base.specs.Lists.{join_all};
 ghost use Rattle.base.specs.Memory.{spliced};
 ghost use Rattle.wire.specs.Row.{is_row, tlvs};
-ghost use Rattle.wire.specs.Order.{before, ascending, good, place};
+ghost use Rattle.wire.specs.Order.{ascending, good, place};
 ghost use Rattle.wire.specs.Answers.{Found};
 
-use crate::row::{size_at, tlv_at};
-
-// x comes before y, byte by byte.
-pub fn is_before(x: &[u8], y: &[u8]) -> bool
-    ensures { result ≡ before x.now y.now }
-{
-    let mut i = 0;
-    while i < y.len() {
-        if x.len() <= i {
-            return true;
-        }
-        if x[i] != y[i] {
-            return x[i] < y[i];
-        }
-        i += 1;
-    }
-    false
-}
-
-// x and y are the same bytes.
-pub fn is_same(x: &[u8], y: &[u8]) -> bool
-    ensures { result ≡ same x.now y.now }
-{
-    if x.len() != y.len() {
-        return false;
-    }
-    let mut i = 0;
-    while i < x.len() {
-        if x[i] != y[i] {
-            return false;
-        }
-        i += 1;
-    }
-    true
-}
+use crate::row::size_at;
+use crate::tlvs::tlvs;
 
 // Good node data for a limit.
 pub fn is_good(s: &[u8], limit: usize) -> bool
@@ -50,19 +16,20 @@ pub fn is_good(s: &[u8], limit: usize) -> bool
     if limit < s.len() {
         return false;
     }
-    let mut last = 0;
+    // Whether it is a row is found out on the way, so nothing that asks for one goes over it.
+    let mut last = &s[..0];
     let mut at = 0;
     while at < s.len() {
-        let n = size_at(s, at);
-        if n == 0 {
+        let Some(n) = size_at(s, at) else {
+            return false;
+        };
+        let tlv = &s[at..at + n];
+        let rises = last < tlv;
+        if !rises {
             return false;
         }
-        let e = at + n;
-        if !is_before(&s[last..at], &s[at..e]) {
-            return false;
-        }
-        last = at;
-        at = e;
+        last = tlv;
+        at += n;
     }
     true
 }
@@ -72,37 +39,23 @@ pub fn place_of(nd: &[u8], tlv: &[u8]) -> usize
     requires { is_row nd.now ≡ true }
     ensures { (result ≤ length nd.now) × (spliced nd.now result tlv.now ≡ join_all (place tlv.now (tlvs nd.now))) }
 {
-    let mut at = 0;
-    while at < nd.len() {
-        let h = tlv_at(nd, at);
-        let e = h.next;
-        if is_before(tlv, &nd[at..e]) {
-            return at;
+    for h in tlvs(nd) {
+        if tlv < h.bytes(nd) {
+            return h.at;
         }
-        at = e;
     }
-    at
+    nd.len()
 }
 
 // Where this very TLV stands in node data.
-#[derive(Clone, Copy)]
-pub enum Standing {
-    At(usize),
-    Nowhere,
-}
-
-pub fn find_tlv(nd: &[u8], tlv: &[u8]) -> Standing
+pub fn find_tlv(nd: &[u8], tlv: &[u8]) -> Option<usize>
     requires { (is_row nd.now ≡ true) × (ascending (tlvs nd.now) ≡ true) }
     ensures { Found nd.now tlv.now result }
 {
-    let mut at = 0;
-    while at < nd.len() {
-        let h = tlv_at(nd, at);
-        let e = h.next;
-        if is_same(tlv, &nd[at..e]) {
-            return Standing::At(at);
+    for h in tlvs(nd) {
+        if tlv == h.bytes(nd) {
+            return Some(h.at);
         }
-        at = e;
     }
-    Standing::Nowhere
+    None
 }

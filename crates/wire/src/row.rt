@@ -1,9 +1,9 @@
 // Rows of TLVs: whether bytes are one, the TLV at a place, and a TLV made of its value.
-ghost use Rattle.std.specs.Prelude.{◌≡◌, true, ◌+◌, ◌-◌, ◌≤◌, ◌<◌, length, take, drop};
-ghost use Rattle.base.specs.Bytes.{noughts, zeros};
+ghost use Rattle.std.specs.Prelude.{◌≡◌, true, ◌+◌, ◌≤◌, ◌<◌, length, take, drop};
+ghost use Rattle.base.specs.Bytes.{zeros};
 ghost use Rattle.base.specs.Memory.{written};
 ghost use Rattle.wire.specs.Row.{padding, is_row, encode};
-ghost use Rattle.wire.specs.Answers.{Size, Tells};
+ghost use Rattle.wire.specs.Answers.{Size, Tells, tlv_of};
 
 use base::big_endian::{put_u16, read_u16};
 
@@ -14,71 +14,73 @@ fn pad(n: usize) -> usize
     (4 - n % 4) % 4
 }
 
-// The k bytes from `at` on, at most three, are zero.
+// The k bytes from `at` on are zero.
 fn padded(s: &[u8], at: usize, k: usize) -> bool
-    requires { (k < 4) × (at + k ≤ length s.now) }
+    requires { at + k ≤ length s.now }
     ensures { result ≡ zeros (take k (drop at s.now)) }
 {
-    if k == 0 {
-        return true;
-    }
-    if s[at] != 0 {
-        return false;
-    }
-    if k == 1 {
-        return true;
-    }
-    if s[at + 1] != 0 {
-        return false;
-    }
-    if k == 2 {
-        return true;
-    }
-    s[at + 2] == 0
+    s[at..at + k].iter().all(|b| *b == 0)
 }
 
-// The size of the TLV at `at`, header and padding included; 0 where no whole TLV with zero padding stands there.
-pub fn size_at(s: &[u8], at: usize) -> usize
+// The size of the TLV at `at`, header and padding included, if a whole one with zero padding stands there.
+pub fn size_at(s: &[u8], at: usize) -> Option<usize>
     requires { at ≤ length s.now }
     ensures { Size (drop at s.now) result }
 {
     let left = s.len() - at;
     if left < 4 {
-        return 0;
+        return None;
     }
-    let n = read_u16(s, at + 2) as usize;
+    let n = usize::from(read_u16(s, at + 2));
     let k = pad(n);
-    if left - 4 < n + k {
-        return 0;
+    if left - 4 < n + k || !padded(s, at + 4 + n, k) {
+        return None;
     }
-    if !padded(s, at + 4 + n, k) {
-        return 0;
-    }
-    4 + n + k
+    Some(4 + n + k)
 }
 
 // A row of whole TLVs with zero padding.
 pub fn is_row(s: &[u8]) -> bool
     ensures { result ≡ is_row s.now }
 {
+    // How far the next TLV is, is found out on the way.
     let mut at = 0;
     while at < s.len() {
-        let n = size_at(s, at);
-        if n == 0 {
+        let Some(n) = size_at(s, at) else {
             return false;
-        }
+        };
         at += n;
     }
     true
 }
 
-// One TLV of a row: its value is the len bytes from start on, and the next TLV starts at next.
-#[derive(Clone, Copy)]
+// One TLV of a row: it stands at `at`, its value is the len bytes from start on, and the next TLV starts at next. The type is
+// a number, since any may stand in a row.
+#[derive(Clone, Copy, Debug, PartialEq, Eq)]
 pub struct Header {
+    pub at: usize,
     pub kind: u16,
     pub len: usize,
     pub start: usize,
     pub next: usize,
+}
+
+impl Header {
+    // The value, out of the row that the TLV stands in.
+    pub fn value<'a>(&self, row: &'a [u8]) -> &'a [u8]
+        requires { self.now.start + self.now.len ≤ length row.now }
+        ensures { result.now ≡ take self.now.len (drop self.now.start row.now) }
+    {
+        &row[self.start..self.start + self.len]
+    }
+
+    // The whole TLV, out of that row.
+    pub fn bytes<'a>(&self, row: &'a [u8]) -> &'a [u8]
+        requires { (self.now.at ≤ self.now.next) × (self.now.next ≤ length row.now) }
+        ensures { result.now ≡ tlv_of row.now self.now.at self.now }
+    {
+        &row[self.at..self.next]
+    }
 }
 
 // The TLV at `at`, where a row goes on.
@@ -87,26 +89,15 @@ pub fn tlv_at(s: &[u8], at: usize) -> Header
     ensures { Tells s.now at result }
 {
     let kind = read_u16(s, at);
-    let len = read_u16(s, at + 2) as usize;
+    let len = usize::from(read_u16(s, at + 2));
     let start = at + 4;
     let next = start + len + pad(len);
     Header {
+        at,
         kind,
         len,
         start,
         next,
-    }
-}
-
-// Zeros from place `at` up to place e.
-fn put_zeros(d: &mut [u8], at: usize, e: usize)
-    requires { (at ≤ e) × (e ≤ length d.old) }
-    ensures { d.new ≡ written d.old at (noughts (e - at)) }
-{
-    let mut i = at;
-    while i < e {
-        d[i] = 0;
-        i += 1;
     }
 }
 
@@ -118,7 +109,7 @@ pub fn close_tlv(d: &mut [u8], at: usize, kind: u16, n: usize) -> usize
     let k = pad(n);
     let a = at + 4 + n;
     let e = a + k;
-    put_zeros(d, a, e);
+    d[a..e].fill(0);
     put_u16(d, at, kind);
     put_u16(d, at + 2, n as u16);
     e

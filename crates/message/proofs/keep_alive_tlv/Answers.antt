@@ -1,6 +1,7 @@
-use Rattle.message.proofs.Filled.{alive-filled}
+use Rattle.wire.specs.Row.{encode}
+use Rattle.model.specs.KeepAlive.{keep_alive_tlv}
 use Rattle.message.proofs.keep_alive_tlv.Goals as goal
 
 pub returns : goal.returns
-returns c =
-    alive-filled _ _ _ _ c.args.endpoint c.args.interval c.put_u16.ensures c.put_u16-2.ensures c.put_u32.ensures c.put_u32-2.ensures
+unfolding encode keep_alive_tlv
+returns c = c.tlv.ensures

@@ -1,6 +1,7 @@
-use Rattle.message.proofs.Filled.{network_filled}
+use mathlib.Core.Path.{◌∙◌}
+use Rattle.wire.specs.Row.{encode}
 use Rattle.message.proofs.network_tlv.Goals as goal
 
 pub returns : goal.returns
-returns c =
-    network_filled _ _ _ c.args.digest c.requires c.put_u16.ensures c.put_u16-2.ensures c.store.ensures
+unfolding encode
+returns c = c.store.ensures ∙ rw (c.tlv-d.ensures, c.requires)

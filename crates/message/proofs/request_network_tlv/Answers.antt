@@ -1,5 +1,6 @@
-use Rattle.message.proofs.Filled.{request_network_bytes}
+use Rattle.wire.specs.Row.{encode}
 use Rattle.message.proofs.request_network_tlv.Goals as goal
 
 pub returns : goal.returns
-returns c = request_network_bytes
+unfolding encode
+returns c = c.tlv.ensures

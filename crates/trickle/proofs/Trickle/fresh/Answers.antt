@@ -6,8 +6,8 @@ use Rattle.trickle.proofs.Laws.{half-some}
 use Rattle.trickle.proofs.Trickle.fresh.Goals as goal
 
 pub overflow_add-result : goal.overflow_add-result
-overflow_add-result c = record { fits = omega (arith, mod-lt c.args.random (half-some c.args.interval c.requires.0)) }
+overflow_add-result c = record { fits = omega (arith, mod-lt c.from.result (half-some c.args.interval c.requires.0)) }
 
 pub returns : goal.returns
 unfolding fresh
-returns c = refl
+returns c = rw c.from.ensures refl

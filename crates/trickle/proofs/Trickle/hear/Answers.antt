@@ -1,11 +1,12 @@
-use mathlib.Core.Path.{sym}
+use Rattle.std.proofs.Common.{ℕ, ap}
 use native.Mathlib.Omega.{arith}
-use Rattle.trickle.specs.View.{trickle_of}
-use Rattle.trickle.proofs.Laws.{hear_up, hear-most}
+use Rattle.model.specs.Trickle.{Trickle as ModelTrickle, hear}
 use Rattle.trickle.proofs.Trickle.hear.Goals as goal
 
-pub returns-then-next-lt-MOST_COUNT : goal.returns-then-next-lt-MOST_COUNT
-returns-then-next-lt-MOST_COUNT c = sym (hear_up (trickle_of c.args.self) (omega arith))
-
-pub returns-else-next-lt-MOST_COUNT : goal.returns-else-next-lt-MOST_COUNT
-returns-else-next-lt-MOST_COUNT c = sym (hear-most (trickle_of c.args.self) (omega arith))
+pub returns : goal.returns
+unfolding hear
+returns c =
+    let t = c.args.self in
+    let counted : ℕ → ModelTrickle =
+    λ n. record { start = t.start; point = t.point; interval = t.interval; count = n; spent = t.spent } in
+    ap counted (omega arith)

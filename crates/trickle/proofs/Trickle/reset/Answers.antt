@@ -8,5 +8,5 @@ pub returns-then-self-gt-LEAST_INTERVAL : goal.returns-then-self-gt-LEAST_INTERV
 returns-then-self-gt-LEAST_INTERVAL c =
     c.fresh.ensures ∙ sym (reset_longer c.args.clock c.args.random (trickle_of c.args.self) (omega arith))
 
-pub returns : goal.returns
-returns c = sym (reset-least c.args.clock c.args.random (trickle_of c.args.self) (omega arith))
+pub returns-else-self-gt-LEAST_INTERVAL : goal.returns-else-self-gt-LEAST_INTERVAL
+returns-else-self-gt-LEAST_INTERVAL c = sym (reset-least c.args.clock c.args.random (trickle_of c.args.self) (omega arith))

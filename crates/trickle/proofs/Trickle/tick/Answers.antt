@@ -15,6 +15,6 @@ returns-then-self-clock c =
     ap (λ (n : ModelTrickle). record { sends = false; next = n }) c.doubled.ensures
     ∙ sym (event-over c.args.clock c.args.random (trickle_of c.args.self) (sym c.is_due.ensures ∙ c.if-is_due.false) c.if-self-clock.true)
 
-pub returns : goal.returns
-returns c =
+pub returns-else-self-clock : goal.returns-else-self-clock
+returns-else-self-clock c =
     sym (event-none c.args.clock c.args.random (trickle_of c.args.self) (sym c.is_due.ensures ∙ c.if-is_due.false) c.if-self-clock.false)

@@ -1,20 +1,14 @@
 use native.Mathlib.Omega.{arith}
 use Prim.Native.Nat.{◌+◌, ◌/◌, ◌%◌}
-use mathlib.Core.Path.{sym, ◌∙◌, refl}
+use mathlib.Core.Path.{sym, ◌∙◌}
 use lib.ListN.{length-set}
 use Rattle.wire.specs.Groups.{groups}
 use Rattle.base.proofs.Written.{written_on, written_last}
 use Rattle.wire.proofs.Varints.{groups-small, groups_large, groups-some, large_length, small-length}
 use Rattle.wire.proofs.groups.put_groups.Goals as goal
 
-pub loop-v-init : goal.loop-v-init
-loop-v-init c = (refl, refl, refl)
-
 pub bounds-d-i : goal.bounds-d-i
 bounds-d-i c = omega (arith, groups-some c.loop-v.v)
-
-pub overflow_add-i : goal.overflow_add-i
-overflow_add-i c = omega (arith, groups-some c.loop-v.v)
 
 pub loop-v-preserved : goal.loop-v-preserved
 loop-v-preserved c = (
@@ -25,9 +19,6 @@ loop-v-preserved c = (
 
 pub bounds-d-i-2 : goal.bounds-d-i-2
 bounds-d-i-2 c = omega (arith, groups-some c.loop-v.v)
-
-pub overflow_add-result : goal.overflow_add-result
-overflow_add-result c = omega (arith, groups-some c.loop-v.v)
 
 pub returns : goal.returns
 returns c =

@@ -1,40 +1,35 @@
 use native.Mathlib.Omega.{arith}
-use mathlib.Core.Path.{sym, ◌∙◌, refl}
+use mathlib.Core.Path.{sym, ◌∙◌}
 use Rattle.wire.proofs.Good.{among_later, among_end, ascending_on, without_on, stands_here}
+use Rattle.base.proofs.Library.{same_equal}
+use Rattle.wire.proofs.Steps.{step, ended}
 use Rattle.wire.proofs.order.find_tlv.Goals as goal
 
-pub loop-at-init : goal.loop-at-init
-loop-at-init c = (omega arith, c.requires.0, refl, c.requires.1, refl)
+pub returns-then-eq : goal.returns-then-eq
+returns-then-eq c =
+    let d = c.args.nd.now in
+    let s = c.loop-h.h-iterator in
+    let h = c.in-Some.h in
+    let k = step d s c.loop-h.invariant.0 c.loop-h.iterator.0 h c.next.new.self c.in-Some.ensures.steps in
+    rw k.tells.here (stands_here d c.args.tlv.now s.at h k.tells c.loop-h.invariant.2 (rw (c.bytes.ensures, k.tells.here) at (sym (same_equal c.args.tlv.now c.bytes.result.now) ∙ sym c.eq.ensures ∙ c.if-eq.true)) k.goes c.loop-h.invariant.1 c.loop-h.invariant.3)
 
-pub tlv_at-h-requires : goal.tlv_at-h-requires
-tlv_at-h-requires c = (c.loop-at-test.true, c.loop-at.invariant.1)
-
-pub slice_bounds-is_same-count : goal.slice_bounds-is_same-count
-slice_bounds-is_same-count c = omega (arith, c.tlv_at-h.ensures.onward)
-
-pub slice_bounds-is_same-start : goal.slice_bounds-is_same-start
-slice_bounds-is_same-start c = omega (arith, c.tlv_at-h.ensures.onward)
-
-pub slice_bounds-is_same-end : goal.slice_bounds-is_same-end
-slice_bounds-is_same-end c = omega (arith, c.tlv_at-h.ensures.within)
-
-pub returns-then-is_same : goal.returns-then-is_same
-returns-then-is_same c =
-    stands_here c.args.nd.now c.args.tlv.now c.loop-at.at c.tlv_at-h.result c.tlv_at-h.ensures c.loop-at.invariant.3 (sym c.is_same.ensures ∙ c.if-is_same.true) c.loop-at.invariant.1 c.loop-at.invariant.2 c.loop-at.invariant.4
-
-pub loop-at-smaller : goal.loop-at-smaller
-loop-at-smaller c = omega (arith, c.tlv_at-h.ensures.onward, c.tlv_at-h.ensures.within)
-
-pub loop-at-preserved : goal.loop-at-preserved
-loop-at-preserved c =
-    let b = sym c.is_same.ensures ∙ c.if-is_same.false in (
-      c.tlv_at-h.ensures.within,
-      c.tlv_at-h.ensures.again,
-      c.loop-at.invariant.2 ∙ among_later c.args.nd.now c.args.tlv.now c.loop-at.at c.tlv_at-h.result c.tlv_at-h.ensures c.loop-at.invariant.1 b,
-      ascending_on c.args.nd.now c.args.tlv.now c.loop-at.at c.tlv_at-h.result c.tlv_at-h.ensures c.loop-at.invariant.3,
-      c.loop-at.invariant.4 ∙ without_on c.args.nd.now c.args.tlv.now c.loop-at.at c.tlv_at-h.result c.tlv_at-h.ensures c.loop-at.invariant.3 b,
+pub loop-h-preserved : goal.loop-h-preserved
+loop-h-preserved c =
+    let d = c.args.nd.now in
+    let s = c.loop-h.h-iterator in
+    let h = c.in-Some.h in
+    let k = step d s c.loop-h.invariant.0 c.loop-h.iterator.0 h c.next.new.self c.in-Some.ensures.steps in
+    let b = rw (c.bytes.ensures, k.tells.here) at (sym (same_equal c.args.tlv.now c.bytes.result.now) ∙ sym c.eq.ensures ∙ c.if-eq.false) in
+    rw k.onward (
+      k.row,
+      c.loop-h.invariant.1 ∙ among_later d c.args.tlv.now s.at h k.tells k.goes b,
+      ascending_on d c.args.tlv.now s.at h k.tells c.loop-h.invariant.2,
+      c.loop-h.invariant.3 ∙ without_on d c.args.tlv.now s.at h k.tells c.loop-h.invariant.2 b,
     )
 
 pub returns : goal.returns
 returns c =
-    c.loop-at.invariant.2 ∙ among_end c.args.nd.now c.args.tlv.now c.loop-at.at (omega arith)
+    let d = c.args.nd.now in
+    let s = c.loop-h.h-iterator in
+    let e = ended d s c.loop-h.invariant.0 c.loop-h.iterator.0 c.next.new.self c.in-None.ensures.steps in
+    c.loop-h.invariant.1 ∙ among_end d c.args.tlv.now s.at (omega arith)

@@ -1,17 +1,15 @@
-use Prim.Native.Nat.{◌-◌, ◌≤◌}
 use mathlib.Core.Path.{◌≡◌}
 use mathlib.Core.List.{◌++◌}
 use Rattle.base.specs.Lists.{join_all}
 use mathlib.Core.Bool.{true}
-use lib.ListN.{length, drop, take}
-use Rattle.wire.specs.Row.{is_row, tlvs}
+use lib.ListN.{drop, take}
+use Rattle.wire.specs.Row.{tlvs}
 use Rattle.wire.specs.Order.{among, ascending, without}
 use Rattle.wire.proofs.order.find_tlv.Given as goal
 
-abbrev pub invariant-loop-at : goal.invariant-loop-at
-invariant-loop-at l =
-    (l.at ≤ length l.nd) × (is_row (drop l.at l.nd) ≡ true) × (among l.tlv (tlvs l.nd) ≡ among l.tlv (tlvs (drop l.at l.nd)))
-    × (ascending (tlvs (drop l.at l.nd)) ≡ true) × (join_all (without l.tlv (tlvs l.nd)) ≡ take l.at l.nd ++ join_all (without l.tlv (tlvs (drop l.at l.nd))))
-
-abbrev pub decreases-loop-at : goal.decreases-loop-at
-decreases-loop-at l = length l.nd - l.at
+abbrev pub invariant-loop-h : goal.invariant-loop-h
+invariant-loop-h l =
+    let at = l.h-iterator.at in (
+    (l.h-iterator.row.now ≡ l.nd) × (among l.tlv (tlvs l.nd) ≡ among l.tlv (tlvs (drop at l.nd)))
+    × (ascending (tlvs (drop at l.nd)) ≡ true) × (join_all (without l.tlv (tlvs l.nd)) ≡ take at l.nd ++ join_all (without l.tlv (tlvs (drop at l.nd))))
+    )

@@ -1,9 +1,7 @@
 use native.Mathlib.Omega.{arith}
-use Prim.Native.Nat.{◌-◌}
-use mathlib.Core.Path.{◌≡◌, sym, ◌∙◌}
-use mathlib.Core.Bool.{true, false}
-use lib.ListN.{drop, take, length-drop}
-use Rattle.wire.proofs.Rows.{size_none, size-some, size_is}
+use mathlib.Core.Path.{sym, ◌∙◌}
+use Rattle.wire.proofs.Rows.{size-onward}
+use Rattle.wire.proofs.Ordering.{before_less}
 use Rattle.wire.proofs.Good.{good-long, good_start, good_end, good_bad, good_on}
 use Rattle.wire.proofs.order.is_good.Goals as goal
 
@@ -13,41 +11,23 @@ returns-then-limit-s c =
 
 pub loop-at-init : goal.loop-at-init
 loop-at-init c =
-    (omega arith, omega arith, good_start c.args.limit c.args.s.now (omega arith))
+    (omega arith, good_start c.args.limit c.args.s.now (omega arith))
 
-pub returns-then-n-eq0 : goal.returns-then-n-eq0
-returns-then-n-eq0 c =
-    let last = take (c.loop-at.at - c.loop-at.last) (drop c.loop-at.last c.args.s.now) in
-    sym (c.loop-at.invariant.2 ∙ good_bad last c.args.s.now c.loop-at.at c.loop-at-test.true (size_none (drop c.loop-at.at c.args.s.now) c.size_at-n.result c.size_at-n.ensures c.if-n-eq0.true))
+pub returns-in_default : goal.returns-in_default
+returns-in_default c =
+    sym (c.loop-at.invariant.1 ∙ good_bad c.loop-at.last.now c.args.s.now c.loop-at.at c.loop-at-test.true c.in_default.ensures)
 
-pub overflow_add-e : goal.overflow_add-e
-overflow_add-e c =
-    let l = length-drop c.loop-at.at c.args.s.now in
-    omega (arith, c.size_at-n.ensures.within)
-
-pub slice_bounds-is_before-end-in-loop-at : goal.slice_bounds-is_before-end-in-loop-at
-slice_bounds-is_before-end-in-loop-at c =
-    let l = length-drop c.loop-at.at c.args.s.now in
-    omega (arith, c.size_at-n.ensures.within)
-
-pub returns-then-not-is_before : goal.returns-then-not-is_before
-returns-then-not-is_before c =
-    let last = take (c.loop-at.at - c.loop-at.last) (drop c.loop-at.last c.args.s.now) in
-    let f : c.is_before.result ≡ false = c.if-not-is_before.true in
-    sym (c.loop-at.invariant.2 ∙ good_on last c.args.s.now c.loop-at.at c.size_at-n.result c.loop-at-test.true (size_is (drop c.loop-at.at c.args.s.now) c.size_at-n.result c.size_at-n.ensures c.if-n-eq0.false) (size-some (drop c.loop-at.at c.args.s.now) c.size_at-n.result c.size_at-n.ensures c.if-n-eq0.false) c.is_before.result c.is_before.ensures ∙ rw f)
+pub returns-then-not-rises : goal.returns-then-not-rises
+returns-then-not-rises c =
+    sym (c.loop-at.invariant.1 ∙ good_on c.loop-at.last.now c.args.s.now c.loop-at.at c.in-Some.n c.loop-at-test.true c.in-Some.ensures.is c.in-Some.ensures.heads c.lt-rises.result (before_less _ _ c.lt-rises.result c.lt-rises.ensures) ∙ rw c.if-not-rises.true)
 
 pub loop-at-smaller : goal.loop-at-smaller
-loop-at-smaller c =
-    let l = length-drop c.loop-at.at c.args.s.now in
-    omega (arith, c.size_at-n.ensures.within)
+loop-at-smaller c = omega (arith, size-onward c.args.s.now c.loop-at.at c.in-Some.n c.loop-at.invariant.0 c.in-Some.ensures)
 
 pub loop-at-preserved : goal.loop-at-preserved
 loop-at-preserved c =
-    let last = take (c.loop-at.at - c.loop-at.last) (drop c.loop-at.last c.args.s.now) in
-    let l = length-drop c.loop-at.at c.args.s.now in
-    let f : c.is_before.result ≡ true = c.if-not-is_before.false in
-    (omega arith, omega (arith, c.size_at-n.ensures.within), c.loop-at.invariant.2 ∙ good_on last c.args.s.now c.loop-at.at c.size_at-n.result c.loop-at-test.true (size_is (drop c.loop-at.at c.args.s.now) c.size_at-n.result c.size_at-n.ensures c.if-n-eq0.false) (size-some (drop c.loop-at.at c.args.s.now) c.size_at-n.result c.size_at-n.ensures c.if-n-eq0.false) c.is_before.result c.is_before.ensures ∙ rw f)
+    ((size-onward c.args.s.now c.loop-at.at c.in-Some.n c.loop-at.invariant.0 c.in-Some.ensures).1, c.loop-at.invariant.1 ∙ good_on c.loop-at.last.now c.args.s.now c.loop-at.at c.in-Some.n c.loop-at-test.true c.in-Some.ensures.is c.in-Some.ensures.heads c.lt-rises.result (before_less _ _ c.lt-rises.result c.lt-rises.ensures) ∙ rw c.if-not-rises.false)
 
 pub returns : goal.returns
 returns c =
-    sym (c.loop-at.invariant.2 ∙ good_end (take (c.loop-at.at - c.loop-at.last) (drop c.loop-at.last c.args.s.now)) c.args.s.now c.loop-at.at (omega arith))
+    sym (c.loop-at.invariant.1 ∙ good_end c.loop-at.last.now c.args.s.now c.loop-at.at (omega arith))

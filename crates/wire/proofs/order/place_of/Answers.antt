@@ -1,34 +1,29 @@
 use native.Mathlib.Omega.{arith}
-use mathlib.Core.Path.{sym, ◌∙◌, refl}
+use mathlib.Core.Path.{sym, ◌∙◌}
 use Rattle.wire.proofs.Good.{put-here, put_later, put_end}
+use Rattle.wire.proofs.Ordering.{before_less}
+use Rattle.wire.proofs.Steps.{step, ended}
 use Rattle.wire.proofs.order.place_of.Goals as goal
 
-pub loop-at-init : goal.loop-at-init
-loop-at-init c = (omega arith, c.requires, refl)
+pub returns-then-lt : goal.returns-then-lt
+returns-then-lt c =
+    let d = c.args.nd.now in
+    let s = c.loop-h.h-iterator in
+    let h = c.in-Some.h in
+    let k = step d s c.loop-h.invariant.0 c.loop-h.iterator.0 h c.next.new.self c.in-Some.ensures.steps in
+    rw k.tells.here (k.within, sym (c.loop-h.invariant.1 ∙ put-here d c.args.tlv.now s.at h k.tells k.goes (rw (c.bytes.ensures, k.tells.here) at (sym (before_less c.args.tlv.now c.bytes.result.now c.lt.result c.lt.ensures) ∙ c.if-lt.true))))
 
-pub tlv_at-h-requires : goal.tlv_at-h-requires
-tlv_at-h-requires c = (c.loop-at-test.true, c.loop-at.invariant.1)
-
-pub slice_bounds-is_before-count : goal.slice_bounds-is_before-count
-slice_bounds-is_before-count c = omega (arith, c.tlv_at-h.ensures.onward)
-
-pub slice_bounds-is_before-start : goal.slice_bounds-is_before-start
-slice_bounds-is_before-start c = omega (arith, c.tlv_at-h.ensures.onward)
-
-pub slice_bounds-is_before-end : goal.slice_bounds-is_before-end
-slice_bounds-is_before-end c = omega (arith, c.tlv_at-h.ensures.within)
-
-pub returns-then-is_before : goal.returns-then-is_before
-returns-then-is_before c =
-    (c.loop-at.invariant.0, sym (c.loop-at.invariant.2 ∙ put-here c.args.nd.now c.args.tlv.now c.loop-at.at c.tlv_at-h.result c.tlv_at-h.ensures c.loop-at.invariant.1 (sym c.is_before.ensures ∙ c.if-is_before.true)))
-
-pub loop-at-smaller : goal.loop-at-smaller
-loop-at-smaller c = omega (arith, c.tlv_at-h.ensures.onward, c.tlv_at-h.ensures.within)
-
-pub loop-at-preserved : goal.loop-at-preserved
-loop-at-preserved c =
-    (c.tlv_at-h.ensures.within, c.tlv_at-h.ensures.again, c.loop-at.invariant.2 ∙ put_later c.args.nd.now c.args.tlv.now c.loop-at.at c.tlv_at-h.result c.tlv_at-h.ensures c.loop-at.invariant.1 (sym c.is_before.ensures ∙ c.if-is_before.false))
+pub loop-h-preserved : goal.loop-h-preserved
+loop-h-preserved c =
+    let d = c.args.nd.now in
+    let s = c.loop-h.h-iterator in
+    let h = c.in-Some.h in
+    let k = step d s c.loop-h.invariant.0 c.loop-h.iterator.0 h c.next.new.self c.in-Some.ensures.steps in
+    (k.row, rw k.onward (c.loop-h.invariant.1 ∙ put_later d c.args.tlv.now s.at h k.tells k.goes (rw (c.bytes.ensures, k.tells.here) at (sym (before_less c.args.tlv.now c.bytes.result.now c.lt.result c.lt.ensures) ∙ c.if-lt.false))))
 
 pub returns : goal.returns
 returns c =
-    (c.loop-at.invariant.0, sym (c.loop-at.invariant.2 ∙ put_end c.args.nd.now c.args.tlv.now c.loop-at.at (omega arith)))
+    let d = c.args.nd.now in
+    let s = c.loop-h.h-iterator in
+    let e = ended d s c.loop-h.invariant.0 c.loop-h.iterator.0 c.next.new.self c.in-None.ensures.steps in
+    (omega arith, rw (← e) (sym (c.loop-h.invariant.1 ∙ put_end d c.args.tlv.now s.at (omega arith))))

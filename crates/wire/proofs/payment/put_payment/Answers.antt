@@ -2,22 +2,19 @@ use native.Mathlib.Omega.{arith}
 use Prim.Native.Nat.{◌+◌, ◌-◌, ◌≤◌}
 use mathlib.Core.Path.{◌≡◌, sym, ◌∙◌}
 use lib.ListN.{length}
-use mir.Syntax.{w32}
-use mir.Val.{to_z, of_z}
 use Rattle.base.specs.Memory.{written}
 use Rattle.wire.specs.Row.{padding}
 use Rattle.wire.specs.Payment.{Payment, payment_value, payment_tlv}
-use Rattle.base.proofs.Signed.{narrow_back}
 use Rattle.wire.proofs.Encoded.{put-closed, encode-length}
+use Rattle.wire.specs.Answers.{told}
 use Rattle.wire.proofs.payment.put_payment.Goals as goal
 
 pub returns : goal.returns
 unfolding payment_tlv
 returns c =
-    let p : Payment = record { household = c.args.household; receipt = c.args.receipt; amount = c.args.amount } in
-    let same : to_z w32 (of_z w32 c.args.amount) ≡ c.args.amount = narrow_back w32 c.args.amount c.ranges.amount in
-    let w : c.put_value-e.new.d ≡ written c.args.d.now 4 (payment_value p) = c.put_value-e.ensures.0 ∙ rw same in
-    let r : c.put_value-e.result ≡ 4 + length (payment_value p) = c.put_value-e.ensures.1 ∙ rw same in
+    let p : Payment = told c.args.payment in
+    let w : c.put_value-e.new.d ≡ written c.args.d.now 4 (payment_value p) = c.put_value-e.ensures.0 in
+    let r : c.put_value-e.result ≡ 4 + length (payment_value p) = c.put_value-e.ensures.1 in
     let b : c.put_value-e.result ≤ 19 = c.put_value-e.ensures.2 in
     let n : c.put_value-e.result - 4 ≡ length (payment_value p) = omega arith in
     let g : 4 + (length (payment_value p) + padding (length (payment_value p))) ≤ 20 = omega arith in

@@ -1,29 +1,18 @@
-use borrow.Author.Tests.{eq-eqb}
 use native.Mathlib.Omega.{arith}
 use Prim.Native.Nat.{◌+◌, ◌-◌}
-use mathlib.Core.Path.{◌≡◌, sym, ◌∙◌}
-use Rattle.base.proofs.Bytes.{zero_stop, zero_two, zero_three, zero-last}
+use borrow.Author.Rules.{rules}
+use borrow.Author.Tests.{tests}
+use mathlib.Core.Path.{◌≡◌, ◌∙◌}
+use lib.Dec.{eqb}
+use lib.ListN.{take, drop}
+use Rattle.std.proofs.lemmas.Iterator.{YieldsList-from_slice}
+use Rattle.std.proofs.lemmas.Iterator.Search.{all_from_yields_List}
+use Rattle.wire.proofs.Rows.{zeros-all}
 use Rattle.wire.proofs.row.padded.Goals as goal
-
-pub returns-then-s-at-ne0 : goal.returns-then-s-at-ne0
-returns-then-s-at-ne0 c =
-    sym (zero_stop c.args.s.now c.args.at c.args.k (omega arith) (omega arith) c.if-s-at-ne0.true)
-
-pub returns-then-k-eq1 : goal.returns-then-k-eq1
-returns-then-k-eq1 c =
-    let e : c.args.k ≡ 1 = omega arith in
-    rw e (sym (zero-last c.args.s.now c.args.at (omega arith) ∙ eq-eqb _ _ c.if-s-at-ne0.false))
-
-pub returns-then-s-at-ne0-2 : goal.returns-then-s-at-ne0-2
-returns-then-s-at-ne0-2 c =
-    sym (zero_two c.args.s.now c.args.at c.args.k (omega arith) (omega arith) c.if-s-at-ne0.false ∙ zero_stop c.args.s.now (c.args.at + 1) (c.args.k - 1) (omega arith) (omega arith) c.if-s-at-ne0-2.true)
-
-pub returns-then-k-eq2 : goal.returns-then-k-eq2
-returns-then-k-eq2 c =
-    let e : c.args.k - 1 ≡ 1 = omega arith in
-    sym (zero_two c.args.s.now c.args.at c.args.k (omega arith) (omega arith) c.if-s-at-ne0.false ∙ rw e (zero-last c.args.s.now (c.args.at + 1) (omega arith) ∙ eq-eqb _ _ c.if-s-at-ne0-2.false))
 
 pub returns : goal.returns
 returns c =
-    let e : c.args.k - 1 - 1 ≡ 1 = omega arith in
-    sym (zero_three c.args.s.now c.args.at c.args.k (omega arith) (omega arith) c.if-s-at-ne0.false c.if-s-at-ne0-2.false ∙ rw e (zero-last c.args.s.now (c.args.at + 2) (omega arith)))
+    let s = take (c.args.at + c.args.k - c.args.at) (drop c.args.at c.args.s.now) in
+    let e : c.args.at + c.args.k - c.args.at ≡ c.args.k = omega arith in
+    let r = all_from_yields_List (λ b. eqb b 0) _ _ c.all.result c.all.ensures.ran (YieldsList-from_slice s c.iter.ensures.rest) (λ x b q k. search (rules, tests)) ∙ zeros-all s in
+    rw e at r
