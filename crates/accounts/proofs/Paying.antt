@@ -1,23 +1,19 @@
 -- A payment into our own data: its TLV as the code writes it, when it is refused, and the state once it is published. Assumes nothing.
-use mathlib.Core.Path.{◌≡◌, sym, ap, subst}
+use mathlib.Core.Path.{◌≡◌, refl, sym, ap, subst}
 use mathlib.Core.Bool.{true, false}
 use mathlib.Core.List.{List, [], ◌∷◌}
 use Prim.Native.Nat.{ℕ, ◌+◌, ◌≤◌, ◌<◌}
 use native.Mathlib.Omega.{arith}
 use lib.ListN.{length, take}
-use lib.IntN.{ℤ}
 use borrow.Author.Tests.{lt-ltb, le-ltb}
-use mir.Syntax.{w32}
-use mir.Val.{SFits, to_z, of_z}
+use Rattle.std.specs.Prelude.{Option, Some, None, is_some}
 use Rattle.base.specs.Memory.{written}
 use Rattle.base.proofs.Written.{part-there}
-use Rattle.base.proofs.Signed.{narrow_back}
+use Rattle.base.proofs.Tests.{no_way}
 use Rattle.wire.specs.Row.{is_row, tlvs}
 use Rattle.wire.specs.Order.{ascending, good, among}
 use Rattle.wire.specs.Payment.{Payment, payment_tlv}
 use Rattle.wire.specs.Answers.{Found}
-use Rattle.wire.specs.declared.order.Standing.{Standing}
-use Rattle.wire.specs.declared.order.Standing.TheVariants.{At, Nowhere}
 use Rattle.wire.proofs.Good.{good-row, good_rises}
 use Rattle.model.specs.Figures.{data_limit, publish_limit, last_reading}
 use Rattle.model.specs.Sequence.{advance}
@@ -35,7 +31,6 @@ use Rattle.node.specs.declared.State.{State}
 use Rattle.node.specs.View.{state_of, Held, Published, Settled}
 use Rattle.node.proofs.Moves.{published_then}
 use Rattle.node.proofs.Settling.{settled_moved}
-use Rattle.accounts.specs.Tallied.{payment_of}
 
 -- ---- our data
 
@@ -51,40 +46,32 @@ module _ (clock : ℕ) (p : Payment) (s : ModelState) where
 
 -- ---- the payment's TLV as the code writes it: to the front of d, which becomes d', in n bytes
 
-abbrev Written : List ℕ → List ℕ → ℕ → Payment → Type 0
-Written d d' n p = (d' ≡ written d 0 (payment_tlv p)) × (n ≡ length (payment_tlv p)) × (n ≤ 20)
-
-module _ (household receipt : ℕ) (amount : ℤ) (small : SFits w32 amount) (d d' : List ℕ) (n : ℕ) (room : 20 ≤ length d)
-    (h : Written d d' n (payment_of household receipt (to_z w32 (of_z w32 amount)))) where
-  abbrev p : Payment
-  p = payment_of household receipt amount
-
-  wrote : Written d d' n p
-  wrote = rw (narrow_back w32 amount small) at h
-
+module _ (p : Payment) (d d' : List ℕ) (n : ℕ) (room : 20 ≤ length d) (h : (d' ≡ written d 0 (payment_tlv p)) × (n ≡ length (payment_tlv p)) × (n ≤ 20)) where
   written-tlv : take n d' ≡ payment_tlv p
-  written-tlv = part-there d d' (payment_tlv p) 0 n wrote.0 wrote.1 (omega (arith, wrote.1, wrote.2))
+  written-tlv = part-there d d' (payment_tlv p) 0 n h.0 h.1 (omega (arith, h.1, h.2))
 
   pub written-size : length (take n d') ≡ length (payment_tlv p)
   written-size = ap length written-tlv
 
   -- ---- refused
 
-  module _ (s : ModelState) (o : List ℕ) (e : o ≡ own_data s) (f : Standing) (k : Found o (take n d') f) where
-    pub refused-paid : (i : ℕ) → f ≡ At i → 8 ≡ first_of (paid_already p s ∷ full p s ∷ [])
-    refused-paid i q =
-        let b : among (payment_tlv p) (tlvs (own_data s)) ≡ true = rw (e, written-tlv) at (subst (Found o (take n d')) q k).there in
+  module _ (s : ModelState) (o : List ℕ) (e : o ≡ own_data s) where
+    pub refused-paid : (f : Option ℕ) → Found o (take n d') f → is_some f ≡ true → 8 ≡ first_of (paid_already p s ∷ full p s ∷ [])
+    refused-paid None k i = no_way true refl (sym i)
+    refused-paid (Some j) k i =
+        let b : among (payment_tlv p) (tlvs (own_data s)) ≡ true = rw (e, written-tlv) at k.there in
         rw b
 
-    module _ (q : f ≡ Nowhere) where
-      nowhere : among (payment_tlv p) (tlvs (own_data s)) ≡ false
-      nowhere = rw (e, written-tlv) at (subst (Found o (take n d')) q k)
+    nowhere : (f : Option ℕ) → Found o (take n d') f → is_some f ≡ false → among (payment_tlv p) (tlvs (own_data s)) ≡ false
+    nowhere None k i = rw (e, written-tlv) at k
+    nowhere (Some j) k i = no_way true refl i
 
+    module _ (f : Option ℕ) (k : Found o (take n d') f) (i : is_some f ≡ false) where
       pub refused_full : publish_limit < length o + n → 9 ≡ first_of (paid_already p s ∷ full p s ∷ [])
-      refused_full l = rw (nowhere, lt-ltb publish_limit (length (own_data s) + length (payment_tlv p)) (omega (arith, ap length e, wrote.1)))
+      refused_full l = rw (nowhere f k i, lt-ltb publish_limit (length (own_data s) + length (payment_tlv p)) (omega (arith, ap length e, h.1)))
 
       pub refused-not : length o + n ≤ publish_limit → 0 ≡ first_of (paid_already p s ∷ full p s ∷ [])
-      refused-not l = rw (nowhere, le-ltb publish_limit (length (own_data s) + length (payment_tlv p)) (omega (arith, ap length e, wrote.1)))
+      refused-not l = rw (nowhere f k i, le-ltb publish_limit (length (own_data s) + length (payment_tlv p)) (omega (arith, ap length e, h.1)))
 
   -- ---- published and settled
 

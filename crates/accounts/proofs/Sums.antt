@@ -1,6 +1,6 @@
 -- Sums step by step: a TLV, a node's data, the marked nodes of the table. Assumes nothing.
 use mathlib.Core.Path.{◌≡◌, sym, ap, ◌∙◌}
-use mathlib.Core.Bool.{Bool, true, false, cond, ◌||◌}
+use mathlib.Core.Bool.{Bool, true, false}
 use mathlib.Core.List.{List, [], ◌∷◌, ◌++◌}
 use mathlib.Core.Option.{Option, none, some}
 use Prim.Native.Nat.{ℕ, ◌+◌, ◌*◌, ◌/◌, ◌≤◌, ◌<◌}
@@ -18,32 +18,29 @@ use Rattle.base.proofs.Tests.{by_test}
 use Rattle.base.proofs.Options.{by_option}
 use Rattle.base.proofs.Lists.{map_append, all_keep_by, all_take}
 use Rattle.base.proofs.Marks.{keep_by_nil, keep_by_length, keep_by_in, keep_by_out}
-use Rattle.base.proofs.Signed.{narrow_back, wide_back, wide_fits}
+use Rattle.base.proofs.Signed.{narrow_back, wide_back}
 use Rattle.wire.specs.Order.{good}
 use Rattle.wire.specs.Payment.{Payment, amount_limit, read_payment}
-use Rattle.wire.specs.Answers.{Tells, as_payment}
+use Rattle.wire.specs.Answers.{Tells, told}
 use Rattle.wire.specs.declared.row.Header.{Header}
-use Rattle.wire.specs.declared.payment.Paid.{Paid}
-use Rattle.wire.specs.declared.payment.Paid.TheVariants.{Readable, Unreadable}
+use Rattle.wire.specs.declared.payment.Payment.{Payment as Paid}
 use Rattle.wire.proofs.Payments.{read-payable, payable-mag, mag-step}
 use Rattle.model.specs.Figures.{most_nodes, data_limit}
 use Rattle.model.specs.Table.{Entry, Statement, statements}
-use Rattle.model.specs.Totals.{total_of, sum_of, unreadable, payments_of, payments_in}
-use Rattle.model.proofs.Totals.{payments_append, payments_counted, payments_good, payments_node, unreadable_append, tally, tally-none, tally_append, tally-mag, of_household, total-is, sum_is, Summing, summing_start, summing_end, summing_pass, summing_unreadable, summing_skip, summing_pick}
+use Rattle.model.specs.Totals.{unreadable, payments_of, payments_in}
+use Rattle.model.proofs.Totals.{payments_append, payments_counted, payments_good, payments_node, unreadable_append, tally, tally-none, tally_append, tally-mag, total-is, sum_is, Summing, summing_start, summing_end, summing_pass, summing_unreadable, summing_skip, summing_pick}
 use Rattle.table.specs.declared.Table.{Table}
 use Rattle.table.specs.View.{no_meta, meta_at, data_of, seen, view, Kept, AllGood}
 use Rattle.table.proofs.Tables.{view-length, view-at, view-each}
 use Rattle.accounts.specs.Tallied.{sum_for, Tallied, counted, add_paid, add_tlv, Added, publishing, most_payments, Room}
 use Rattle.accounts.specs.declared.totals.Whose.{Whose}
+use Rattle.accounts.specs.declared.totals.Whose.TheVariants.{All, Of}
 use Rattle.accounts.specs.declared.totals.Total.{Total}
 
 -- ---- whose payments are summed
 
 abbrev picked : Whose → Payment → Bool
 picked w p = counted w p.household
-
-pub counted-one : (w : Whose) (h : ℕ) → w.all ≡ false → eqb h w.household ≡ counted w h
-counted-one w h e = rw e
 
 -- ---- one TLV: of another type, or a payment that is unreadable, not picked, picked
 
@@ -75,48 +72,36 @@ module _ (w : Whose) (kind : ℕ) (v : List ℕ) (t : Total) where
 room_fits : (t : Total) → Room (most_payments * 2) t → SFits w64 t.value
 room_fits t m = record { sfits = omega (arith, m.value) }
 
-module _ (w : Whose) (kind : ℕ) (v : List ℕ) (t : Total) (k : kind ≡ 40) (m : Room (most_payments * 2) t) (d : Paid) (e : as_payment d ≡ read_payment v) where
-  pub code_unread : d ≡ Unreadable → total (to_z w64 (of_z w64 t.value)) (t.unread + 1) ≡ add_tlv w kind v t
-  code_unread q = rw (narrow_back w64 t.value (room_fits t m)) (sym (add_unread w kind v t k (sym e ∙ ap as_payment q)))
+module _ (w : Whose) (kind : ℕ) (v : List ℕ) (t : Total) (k : kind ≡ 40) (m : Room (most_payments * 2) t) where
+  pub code_unread : none ≡ read_payment v → total (to_z w64 (of_z w64 t.value)) (t.unread + 1) ≡ add_tlv w kind v t
+  code_unread e = rw (narrow_back w64 t.value (room_fits t m)) (sym (add_unread w kind v t k (sym e)))
 
-  module _ (h r : ℕ) (a : ℤ) (q : d ≡ Readable h r a) where
-    abbrev paid : Payment
-    paid = record { household = h; receipt = r; amount = a }
+  module _ (p : Paid) (e : some (told p) ≡ read_payment v) where
+    small : mag p.amount < amount_limit
+    small = payable-mag (told p) (read-payable v (told p) (sym e))
 
-    read : read_payment v ≡ some paid
-    read = sym e ∙ ap as_payment q
+    sum_fits : SFits w64 (t.value +ℤ p.amount)
+    sum_fits = record { sfits = omega (arith, mag-step (most_payments * 2) t.value p.amount m.value small) }
 
-    small : mag a < amount_limit
-    small = payable-mag paid (read-payable v paid read)
-
-    fits : SFits w32 a
+    fits : SFits w32 p.amount
     fits = record { sfits = small }
 
-    pub code_cast : SFits w64 (to_z w32 (of_z w32 a))
-    code_cast = wide_fits a fits
+    pub code_sum : SFits w64 (to_z w64 (of_z w64 t.value) +ℤ to_z w64 (of_z w64 (to_z w32 (of_z w32 p.amount))))
+    code_sum = rw (narrow_back w64 t.value (room_fits t m), wide_back p.amount fits) sum_fits
 
-    sum_fits : SFits w64 (t.value +ℤ a)
-    sum_fits = record { sfits = omega (arith, mag-step (most_payments * 2) t.value a m.value small) }
+    pub code_not : counted w p.household ≡ false → t ≡ add_tlv w kind v t
+    code_not b = sym (add_not w kind v t k (told p) (sym e) b)
 
-    pub code_sum : SFits w64 (to_z w64 (of_z w64 t.value) +ℤ to_z w64 (of_z w64 (to_z w32 (of_z w32 a))))
-    code_sum = rw (narrow_back w64 t.value (room_fits t m), wide_back a fits) sum_fits
-
-    pub code_not : counted w h ≡ false → t ≡ add_tlv w kind v t
-    code_not b = sym (add_not w kind v t k paid read b)
-
-    pub code_picked : counted w h ≡ true
-        → total (to_z w64 (of_z w64 (to_z w64 (of_z w64 t.value) +ℤ to_z w64 (of_z w64 (to_z w32 (of_z w32 a)))))) t.unread ≡ add_tlv w kind v t
+    pub code_picked : counted w p.household ≡ true
+        → total (to_z w64 (of_z w64 (to_z w64 (of_z w64 t.value) +ℤ to_z w64 (of_z w64 (to_z w32 (of_z w32 p.amount)))))) t.unread ≡ add_tlv w kind v t
     code_picked b =
-        rw (narrow_back w64 t.value (room_fits t m), wide_back a fits, narrow_back w64 (t.value +ℤ a) sum_fits) (sym (add_picked w kind v t k paid read b))
+        rw (narrow_back w64 t.value (room_fits t m), wide_back p.amount fits, narrow_back w64 (t.value +ℤ p.amount) sum_fits) (sym (add_picked w kind v t k (told p) (sym e) b))
 
 -- ---- the sum asked for is the tally of the payments that it picks
 
-by_whose : (b : Bool) (h : ℕ) (ss : List Statement) → cond b (sum_of ss) (total_of h ss) ≡ tally (λ p. b || of_household h p) (payments_in ss)
-by_whose true h ss = sum_is ss
-by_whose false h ss = total-is h ss
-
 sum_for_lem : (w : Whose) (ss : List Statement) → sum_for w ss ≡ tally (picked w) (payments_in ss)
-sum_for_lem w ss = by_whose w.all w.household ss
+sum_for_lem All ss = sum_is ss
+sum_for_lem (Of h) ss = total-is h ss
 
 -- ---- one node's data d: r is t with the TLVs before place at
 
@@ -194,8 +179,8 @@ abbrev pub AddedBelow : Whose → List Bool → List Entry → Total → ℕ →
 AddedBelow w marks t r i = Added w (statements (keep_by marks (take i t))) (total (pos 0) 0) r
 
 module _ (w : Whose) (marks : List Bool) (t : List Entry) where
-  pub table-start : AddedBelow w marks t (total (pos 0) 0) 0
-  table-start = rw (keep_by_nil {A = Entry} marks) (added_none w (total (pos 0) 0))
+  pub table-start : (r : Total) → (r.value ≡ pos 0) × (r.unread ≡ 0) → AddedBelow w marks t r 0
+  table-start r e = rw (keep_by_nil {A = Entry} marks) (let a = added_none w (total (pos 0) 0) in record { value = e.0 ∙ a.value; unread = e.1 ∙ a.unread })
 
   module _ (r : Total) (i : ℕ) (s : AddedBelow w marks t r i) where
     -- there is room for one node's payments more

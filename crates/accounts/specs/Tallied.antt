@@ -1,5 +1,5 @@
 -- What a sum over nodes answers: a payment, a TLV and a node more. Assumes nothing.
-use Rattle.std.specs.Prelude.{◌≡◌, Bool, cond, ◌||◌, List, ℕ, ◌+◌, ◌*◌, ◌/◌, ◌≤◌, eqb, ℤ, ◌+ℤ◌}
+use Rattle.std.specs.Prelude.{◌≡◌, Bool, true, cond, List, ℕ, ◌+◌, ◌*◌, ◌/◌, ◌≤◌, eqb, ℤ, ◌+ℤ◌}
 use Rattle.std.proofs.Math.Option.{Option, none, some}
 use Rattle.std.specs.Int.Signed.{mag}
 use Rattle.wire.specs.Payment.{Payment, amount_limit, read_payment}
@@ -7,11 +7,13 @@ use Rattle.model.specs.Figures.{most_nodes, data_limit}
 use Rattle.model.specs.Table.{Statement}
 use Rattle.model.specs.Totals.{total_of, sum_of, unreadable, payments_in}
 use Rattle.accounts.specs.declared.totals.Whose.{Whose}
+use Rattle.accounts.specs.declared.totals.Whose.TheVariants.{All, Of}
 use Rattle.accounts.specs.declared.totals.Total.{Total}
 
 -- the sum asked for: every household's, or one's
 abbrev pub sum_for : Whose → List Statement → ℤ
-sum_for w ss = cond w.all (sum_of ss) (total_of w.household ss)
+sum_for All ss = sum_of ss
+sum_for (Of household) ss = total_of household ss
 
 -- the sum over these nodes, and how many of their payments are unreadable
 pub record Tallied (w : Whose) (ss : List Statement) (r : Total) : Type 0 where
@@ -25,7 +27,8 @@ payment_of household receipt amount = record { household = household; receipt = 
 
 -- the household's payments are summed
 abbrev pub counted : Whose → ℕ → Bool
-counted w household = w.all || eqb household w.household
+counted All household = true
+counted (Of one) household = eqb household one
 
 -- one payment TLV more, which reads as a payment or as none
 abbrev pub add_paid : Whose → Option Payment → Total → Total

@@ -9,18 +9,31 @@ ghost use Rattle.accounts.specs.Tallied.{counted, most_payments, Room, add_tlv, 
 
 use model::figures::MOST_NODES;
 use table::{Table, data_of};
-use wire::payment::{Paid, read_payment};
-use wire::row::tlv_at;
+use wire::kind::Kind;
+use wire::payment::read_payment;
+use wire::tlvs::tlvs;
 
-// Whose payments are summed: every household's, or one's.
-#[derive(Clone, Copy)]
-pub struct Whose {
-    pub all: bool,
-    pub household: u32,
+// Whose payments are summed: every household's, or one's. No Option, whose None would read as nobody's.
+#[derive(Clone, Copy, Debug, PartialEq, Eq)]
+pub enum Whose {
+    All,
+    Of(u32),
+}
+
+impl Whose {
+    // The household's payments are summed.
+    fn counts(self, household: u32) -> bool
+        ensures { result ≡ counted self household }
+    {
+        match self {
+            Whose::All => true,
+            Whose::Of(one) => household == one,
+        }
+    }
 }
 
 // A sum in cents, and how many payments were unreadable.
-#[derive(Clone, Copy)]
+#[derive(Clone, Copy, Debug, Default, PartialEq, Eq)]
 pub struct Total {
     pub value: i64,
     pub unread: u32,
@@ -31,39 +44,20 @@ fn add_tlv(t: Total, w: Whose, kind: u16, value: &[u8]) -> Total
     requires { Room (most_payments * 2) t }
     ensures { result ≡ add_tlv w kind value.now t }
 {
-    if kind != 40 {
+    if kind != Kind::Payment as u16 {
         return t;
     }
-    let paid = read_payment(value);
-    match paid {
-        Paid::Unreadable => Total {
-            value: t.value,
+    match read_payment(value) {
+        None => Total {
             unread: t.unread + 1,
+            ..t
         },
-        Paid::Readable {
-            household,
-            receipt: _,
-            amount,
-        } => {
-            if is_counted(w, household) {
-                return Total {
-                    value: t.value + amount as i64,
-                    unread: t.unread,
-                };
-            }
-            t
-        }
+        Some(payment) if w.counts(payment.household) => Total {
+            value: t.value + i64::from(payment.amount),
+            ..t
+        },
+        Some(_) => t,
     }
-}
-
-// The household's payments are summed.
-fn is_counted(w: Whose, household: u32) -> bool
-    ensures { result ≡ counted w household }
-{
-    if w.all {
-        return true;
-    }
-    household == w.household
 }
 
 // One node's data more.
@@ -72,13 +66,8 @@ fn add_data(t: Total, w: Whose, nd: &[u8]) -> Total
     ensures { Added w (publishing nd.now ∷ []) t result }
 {
     let mut r = t;
-    let mut at = 0;
-    while at < nd.len() {
-        let h = tlv_at(nd, at);
-        let a = h.start;
-        let b = a + h.len;
-        r = add_tlv(r, w, h.kind, &nd[a..b]);
-        at = h.next;
+    for h in tlvs(nd) {
+        r = add_tlv(r, w, h.kind, h.value(nd));
     }
     r
 }
@@ -88,17 +77,11 @@ pub fn tally(t: Table, mem: &[u8], marks: [bool; MOST_NODES], w: Whose) -> Total
     requires { Kept t mem.now × AllGood (view t mem.now) }
     ensures { Tallied w (statements (keep_by marks (view t mem.now))) result }
 {
-    let count = t.count;
-    let mut r = Total {
-        value: 0,
-        unread: 0,
-    };
-    let mut i = 0;
-    while i < count {
+    let mut r = Total::default();
+    for i in 0..t.count {
         if marks[i] {
             r = add_data(r, w, data_of(t, mem, i));
         }
-        i += 1;
     }
     r
 }

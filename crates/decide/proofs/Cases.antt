@@ -3,8 +3,11 @@ use mathlib.Core.Path.{◌≡◌, refl, sym, ap, ◌∙◌, subst}
 use mathlib.Core.Bool.{Bool, true, false, not, ◌&&◌}
 use mathlib.Core.List.{List, [], ◌∷◌}
 use mathlib.Core.Option.{none, some}
+use Rattle.std.specs.Prelude.{Ok, Err}
 use Prim.Native.Nat.{ℕ, ◌-◌, ◌≤◌, ◌<◌}
 use native.Mathlib.Omega.{arith}
+use lib.Dec.{eqb}
+use lib.Pointwise.{pointwise}
 use lib.ListN.{length, take, drop}
 use borrow.Author.Tests.{not-true, not-false, le-leb, lt-leb, eq-eqb, ne_eqb}
 use Rattle.base.specs.Bytes.{u32_at, same}
@@ -12,6 +15,7 @@ use Rattle.base.specs.Lists.{is_some}
 use Rattle.base.proofs.Tests.{no_way, by_test, and_left, and_right}
 use Rattle.sha256.specs.Sha256.{hash16}
 use Rattle.wire.specs.Order.{good}
+use Rattle.base.proofs.Library.{same_equal}
 use Rattle.wire.proofs.Ordering.{same-is}
 use Rattle.wire.proofs.Good.{good-fits}
 use Rattle.model.specs.Figures.{most_nodes, data_limit}
@@ -20,6 +24,7 @@ use Rattle.model.specs.Table.{Entry, look}
 use Rattle.model.specs.Decide.{Received, Decision, carried_in, received_of, taken, with_data, without_data, wanted_new, wanted_held, differs, decide}
 use Rattle.table.specs.View.{data_of, seen, view, Arranged, Kept, Read, Stands, Gap}
 use Rattle.table.specs.declared.Table.{Table}
+use Rattle.table.specs.declared.Version.{Version}
 use Rattle.table.specs.declared.Entry.{Entry as Meta}
 use Rattle.table.proofs.Tables.{look-stands, look_gap, view-length, meta_hashed}
 use Rattle.decide.specs.Decided.{decision_of, Acts, Fine, Taken, Fields, Decides}
@@ -27,11 +32,13 @@ use Rattle.decide.specs.declared.Decision.{Decision as Answer}
 use Rattle.base.proofs.Lists.{rest-is}
 use Rattle.decide.specs.declared.Decision.TheVariants.{Ignored, Ask, TakeNumber, TakeAll, Dropped}
 
--- ---- the data carried
+-- ---- two byte lists compared
 
-pub carries_some : (h d : List ℕ) → 0 < length d → true ≡ is_some (carried_in h d)
-carries_some h [] p = absurd (omega arith)
-carries_some h (x ∷ d) p = refl
+-- `==` of the code is `same`
+pub compared : {b : Bool} {x y z u : List ℕ} → b ≡ pointwise eqb x y → x ≡ z → y ≡ u → b ≡ same z u
+compared {y = y} {z = z} {u = u} e p q = e ∙ ap (λ (v : List ℕ). pointwise eqb v y) p ∙ ap (pointwise eqb z) q ∙ same_equal z u
+
+-- ---- the data carried
 
 pub carries_none : (h d : List ℕ) → length d ≤ 0 → same h (hash16 d) ≡ is_some (carried_in h d)
 carries_none h [] p = by_test (same h (hash16 [])) (λ e. rw e) (λ e. rw e)
@@ -49,13 +56,6 @@ carried_none h (x ∷ d) e = no_way true refl e
 
 abbrev fine : List ℕ → List ℕ → Bool
 fine h d = good data_limit d && same (hash16 d) h
-
-module _ (h d : List ℕ) (g : Bool) (e : g ≡ good data_limit d) where
-  pub fine-not : not g ≡ true → false ≡ fine h d
-  fine-not n = rw (← e, not-true g n)
-
-  pub fine_if : not g ≡ false → (b : Bool) (digest : List ℕ) → digest ≡ hash16 d → b ≡ same digest h → b ≡ fine h d
-  fine_if n b digest o q = rw (← e, not-false g n, ← o) q
 
 -- ---- ours against the received one
 
@@ -120,11 +120,11 @@ module _ (clock : ℕ) (t : List Entry) (r : Received) where
 
 -- ---- the code's decision, on a value v with these fields
 
-abbrev fields_of : ℕ → ℕ → ℕ → List ℕ → List ℕ → Received
-fields_of node seq age h d = record { node = node; seq = seq; age = age; hash = h; carried = carried_in h d }
+abbrev fields_of : Version → List ℕ → List ℕ → Received
+fields_of a h d = record { node = a.id; seq = a.seq; age = a.age; hash = h; carried = carried_in h d }
 
-module _ (t : Table) (i node seq age : ℕ) (h d v : List ℕ) (k : Arranged t) (x : Fields v node seq age h d) where
-  fields_are : received_of v ≡ fields_of node seq age h d
+module _ (t : Table) (i : ℕ) (a : Version) (h d v : List ℕ) (k : Arranged t) (x : Fields v a h d) where
+  fields_are : received_of v ≡ fields_of a h d
   unfolding received_of
   fields_are = rw (x.node_is, x.seq_is, x.age_is, x.hash_is, x.bytes_are)
 
@@ -135,85 +135,85 @@ module _ (t : Table) (i node seq age : ℕ) (h d v : List ℕ) (k : Arranged t) 
       (good-fits data_limit d (and_left (good data_limit d) (same (hash16 d) h) f), sym (same-is (hash16 d) h (and_right (good data_limit d) (same (hash16 d) h) f)))
 
   decides : (r : Answer) → Acts t r → Taken t v r
-      → ((clock : ℕ) (m : List ℕ) → Kept t m → decide clock (view t m) (fields_of node seq age h d) ≡ decision_of clock t m v r) → Decides t v r
-  decides r a b e = record { acts = a; taken = b; is = λ clock m g. sym (ap (decide clock (view t m)) fields_are ∙ e clock m g) }
+      → ((m : List ℕ) → Kept t m → decide a.since (view t m) (fields_of a h d) ≡ decision_of t m v r) → Decides a.since t v r
+  decides r p b e = record { acts = p; taken = b; is = λ m g. sym (ap (decide a.since (view t m)) fields_are ∙ e m g) }
 
   -- about a node held, its entry at place i
-  module _ (e₀ : Meta) (s : Stands t node i) (o : Read t i e₀) where
-    held : (m : List ℕ) → look node (view t m) ≡ some (seen m e₀)
-    held m = look-stands t k node i m s ∙ ap (λ (e : Meta). some (seen m e)) (sym o.same)
+  module _ (e₀ : Meta) (s : Stands t a.id i) (o : Read t i e₀) where
+    held : (m : List ℕ) → look a.id (view t m) ≡ some (seen m e₀)
+    held m = look-stands t k a.id i m s ∙ ap (λ (e : Meta). some (seen m e)) (sym o.same)
 
     hashed : (m : List ℕ) → Kept t m → e₀.hash ≡ hash16 (data_of m e₀)
     hashed m g = subst (λ (e : Meta). e.hash ≡ hash16 (data_of m e)) (sym o.same) (meta_hashed t m i g s.at)
 
     -- w tells whether it is wanted
     module _ (w : Bool)
-        (f : (m u : List ℕ) → e₀.hash ≡ hash16 (data_of m e₀) → seq ≡ (received_of u).seq → h ≡ (received_of u).hash → w ≡ differs (seen m e₀) (received_of u)) where
-      differ : (m : List ℕ) → Kept t m → differs (seen m e₀) (fields_of node seq age h d) ≡ w
+        (f : (m u : List ℕ) → e₀.hash ≡ hash16 (data_of m e₀) → a.seq ≡ (received_of u).seq → h ≡ (received_of u).hash → w ≡ differs (seen m e₀) (received_of u)) where
+      differ : (m : List ℕ) → Kept t m → differs (seen m e₀) (fields_of a h d) ≡ w
       differ m g = rw (← fields_are) (sym (f m v (hashed m g) (rw fields_are) (rw fields_are)))
 
-      pub unwanted : not w ≡ true → Decides t v Ignored
-      unwanted p = decides Ignored tt tt (λ clock m g. held_unwanted clock (view t m) (fields_of node seq age h d) (seen m e₀) (held m) (differ m g ∙ not-true w p))
+      pub unwanted : not w ≡ true → Decides a.since t v Ignored
+      unwanted p = decides Ignored tt tt (λ m g. held_unwanted a.since (view t m) (fields_of a h d) (seen m e₀) (held m) (differ m g ∙ not-true w p))
 
       -- b tells whether data are carried
       module _ (p : not w ≡ false) (b : Bool) (e : b ≡ is_some (carried_in h d)) where
         module _ (q : b ≡ true) (y : Bool) (z : y ≡ fine h d) where
-          pub replaces : y ≡ true → Decides t v (TakeAll i true node seq age)
+          pub replaces : y ≡ true → Decides a.since t v (TakeAll (Ok i) a)
           replaces c =
-              decides (TakeAll i true node seq age) s (tt, fine-taken (sym z ∙ c))
-              (λ clock m g. rw (← x.bytes_are)
-              (held_all clock (view t m) (fields_of node seq age h d) (seen m e₀) (held m) (differ m g ∙ not-false w p) d (carried_some h d (sym e ∙ q)) (sym z ∙ c)))
+              decides (TakeAll (Ok i) a) s (tt, fine-taken (sym z ∙ c))
+              (λ m g. rw (← x.bytes_are)
+              (held_all a.since (view t m) (fields_of a h d) (seen m e₀) (held m) (differ m g ∙ not-false w p) d (carried_some h d (sym e ∙ q)) (sym z ∙ c)))
 
-          pub bad_held : y ≡ false → Decides t v Ignored
+          pub bad_held : y ≡ false → Decides a.since t v Ignored
           bad_held c =
               decides Ignored tt tt
-              (λ clock m g. held_bad clock (view t m) (fields_of node seq age h d) (seen m e₀) (held m) (differ m g ∙ not-false w p) d (carried_some h d (sym e ∙ q)) (sym z ∙ c))
+              (λ m g. held_bad a.since (view t m) (fields_of a h d) (seen m e₀) (held m) (differ m g ∙ not-false w p) d (carried_some h d (sym e ∙ q)) (sym z ∙ c))
 
         module _ (q : b ≡ false) (y : Bool) (z : y ≡ same e₀.hash h) where
           equal : (m : List ℕ) → Kept t m → same (hash16 (data_of m e₀)) h ≡ y
           equal m g = rw (← hashed m g) (sym z)
 
-          pub renumbers : y ≡ true → Decides t v (TakeNumber i node seq age)
+          pub renumbers : y ≡ true → Decides a.since t v (TakeNumber i a)
           renumbers c =
-              decides (TakeNumber i node seq age) s tt
-              (λ clock m g. rw (← o.same)
-              (held_number clock (view t m) (fields_of node seq age h d) (seen m e₀) (held m) (differ m g ∙ not-false w p) (carried_none h d (sym e ∙ q)) (equal m g ∙ c)))
+              decides (TakeNumber i a) s tt
+              (λ m g. rw (← o.same)
+              (held_number a.since (view t m) (fields_of a h d) (seen m e₀) (held m) (differ m g ∙ not-false w p) (carried_none h d (sym e ∙ q)) (equal m g ∙ c)))
 
-          pub asks_held : y ≡ false → Decides t v (Ask node)
+          pub asks_held : y ≡ false → Decides a.since t v (Ask a.id)
           asks_held c =
-              decides (Ask node) tt tt
-              (λ clock m g. held_ask clock (view t m) (fields_of node seq age h d) (seen m e₀) (held m) (differ m g ∙ not-false w p) (carried_none h d (sym e ∙ q)) (equal m g ∙ c))
+              decides (Ask a.id) tt tt
+              (λ m g. held_ask a.since (view t m) (fields_of a h d) (seen m e₀) (held m) (differ m g ∙ not-false w p) (carried_none h d (sym e ∙ q)) (equal m g ∙ c))
 
   -- about a node not held, which would stand at place i
-  module _ (s : Gap t node i) where
-    pub no_room : most_nodes ≤ t.count → Decides t v Dropped
-    no_room p = decides Dropped tt tt (λ clock m g. new_full clock (view t m) (fields_of node seq age h d) (look_gap t k node i m s) (rw (view-length t k m) p))
+  module _ (s : Gap t a.id i) where
+    pub no_room : most_nodes ≤ t.count → Decides a.since t v Dropped
+    no_room p = decides Dropped tt tt (λ m g. new_full a.since (view t m) (fields_of a h d) (look_gap t k a.id i m s) (rw (view-length t k m) p))
 
     module _ (p : t.count < most_nodes) (b : Bool) (e : b ≡ is_some (carried_in h d)) where
-      pub asks_new : not b ≡ true → Decides t v (Ask node)
+      pub asks_new : not b ≡ true → Decides a.since t v (Ask a.id)
       asks_new q =
-          decides (Ask node) tt tt
-          (λ clock m g. new_ask clock (view t m) (fields_of node seq age h d) (look_gap t k node i m s) (rw (view-length t k m) p) (carried_none h d (sym e ∙ not-true b q)))
+          decides (Ask a.id) tt tt
+          (λ m g. new_ask a.since (view t m) (fields_of a h d) (look_gap t k a.id i m s) (rw (view-length t k m) p) (carried_none h d (sym e ∙ not-true b q)))
 
       module _ (q : not b ≡ false) (y : Bool) (z : y ≡ fine h d) where
-        pub inserts : y ≡ true → Decides t v (TakeAll i false node seq age)
+        pub inserts : y ≡ true → Decides a.since t v (TakeAll (Err i) a)
         inserts c =
-            decides (TakeAll i false node seq age) s (p, fine-taken (sym z ∙ c))
-            (λ clock m g. rw (← x.bytes_are)
-            (new_all clock (view t m) (fields_of node seq age h d) (look_gap t k node i m s) (rw (view-length t k m) p) d
+            decides (TakeAll (Err i) a) s (p, fine-taken (sym z ∙ c))
+            (λ m g. rw (← x.bytes_are)
+            (new_all a.since (view t m) (fields_of a h d) (look_gap t k a.id i m s) (rw (view-length t k m) p) d
             (carried_some h d (sym e ∙ not-false b q)) (sym z ∙ c)))
 
-        pub bad_new : y ≡ false → Decides t v Ignored
+        pub bad_new : y ≡ false → Decides a.since t v Ignored
         bad_new c =
             decides Ignored tt tt
-            (λ clock m g. new_bad clock (view t m) (fields_of node seq age h d) (look_gap t k node i m s) (rw (view-length t k m) p) d
+            (λ m g. new_bad a.since (view t m) (fields_of a h d) (look_gap t k a.id i m s) (rw (view-length t k m) p) d
             (carried_some h d (sym e ∙ not-false b q)) (sym z ∙ c))
 
 -- ---- the whole, from the fields that were read
 
-module _ (t : Table) (v : List ℕ) (node seq age : ℕ) (n : node ≡ u32_at v 0) (s : seq ≡ u32_at v 4) (a : age ≡ u32_at v 8) where
-  pub decided : (r : Answer) → ((u : List ℕ) → Fields u node seq age (take 16 (drop 12 v)) (take (length v - 28) (drop 28 v)) → Decides t u r)
-      → (clock : ℕ) (m : List ℕ) → Kept t m → Acts t r × (Taken t v r × (decision_of clock t m v r ≡ decide clock (view t m) (received_of v)))
-  decided r f clock m g =
-      let e : Decides t v r = f v (record { node_is = n; seq_is = s; age_is = a; hash_is = refl; bytes_are = rest-is v 28 }) in
-      (e.acts, (e.taken, e.is clock m g))
+module _ (t : Table) (v : List ℕ) (h : Version) (n : h.id ≡ u32_at v 0) (s : h.seq ≡ u32_at v 4) (a : h.age ≡ u32_at v 8) where
+  pub decided : (r : Answer) → ((u : List ℕ) → Fields u h (take 16 (drop 12 v)) (take (length v - 28) (drop 28 v)) → Decides h.since t u r)
+      → (m : List ℕ) → Kept t m → Acts t r × (Taken t v r × (decision_of t m v r ≡ decide h.since (view t m) (received_of v)))
+  decided r f m g =
+      let e : Decides h.since t v r = f v (record { node_is = n; seq_is = s; age_is = a; hash_is = refl; bytes_are = rest-is v 28 }) in
+      (e.acts, (e.taken, e.is m g))

@@ -1,18 +1,14 @@
--- The peers of the code as those of the model: known, heard, one more. Assumes nothing.
-use mathlib.Core.Path.{◌≡◌, refl, sym, ap, ◌∙◌}
-use mathlib.Core.Bool.{Bool, true, false}
+-- The peers of the code as those of the model: heard, one more. Assumes nothing.
+use mathlib.Core.Path.{◌≡◌, sym, ap, ◌∙◌}
 use mathlib.Core.List.{List, [], ◌∷◌, ◌++◌, map, map-append}
 use Prim.Native.Nat.{ℕ, suc, ◌+◌, ◌≤◌, ◌<◌}
 use native.Mathlib.Omega.{arith}
 use native.Mathlib.Numerals.{add-one}
-use lib.ListN.{length, get_or, take, drop, set, length-set, length-map, drop_of_length-le, get_or-map}
+use lib.ListN.{length, get_or, take, drop, set, length-set, length-map, get_or-map}
 use lib.Seq.{get_or-take, get_or_at, drop-cons, length-take-le, take-suc-set, take-set-lt}
-use lib.Dec.{eqb}
-use borrow.Author.Tests.{eq-eqb, ne_eqb}
-use Rattle.base.specs.Lists.{any}
 use Rattle.base.proofs.Lists.{fill_step, fill_all}
 use Rattle.model.specs.Figures.{most_peers}
-use Rattle.model.specs.State.{is_peer, contacted, Peer as ModelPeer}
+use Rattle.model.specs.State.{Peer as ModelPeer}
 use Rattle.node.specs.View.{peer_of, peers_of, PeersRep}
 use Rattle.node.specs.declared.peers.Peer.{Peer}
 use Rattle.base.proofs.Places.{map-set, get_d_any}
@@ -24,50 +20,6 @@ first_count p k = length-take-le p.count p.list (omega (arith, k.few, k.list))
 pub peers-length : (p : Peers) → PeersRep p → length (peers_of p) ≡ p.count
 unfolding peers_of
 peers-length p k = length-map (take p.count p.list) peer_of ∙ first_count p k
-
--- ---- one peer
-
-module _ (p : ModelPeer) (n theirs ours : ℕ) where
-  pub other-node : ¬ (p.node ≡ n) → is_peer n theirs ours p ≡ false
-  other-node h = rw (ne_eqb p.node n h)
-
-  pub other-endpoint : p.node ≡ n → ¬ (p.theirs ≡ theirs) → is_peer n theirs ours p ≡ false
-  other-endpoint e h = rw (eq-eqb p.node n e, ne_eqb p.theirs theirs h)
-
-  pub same-both : p.node ≡ n → p.theirs ≡ theirs → is_peer n theirs ours p ≡ eqb p.ours ours
-  same-both e f = rw (eq-eqb p.node n e, eq-eqb p.theirs theirs f)
-
-  pub contacted_now : (clock : ℕ) → is_peer n theirs ours p ≡ true
-      → contacted n theirs ours clock p ≡ record { node = p.node; theirs = p.theirs; ours = p.ours; contact = clock }
-  contacted_now clock h = rw h
-
-  pub contacted-not : (clock : ℕ) → is_peer n theirs ours p ≡ false → contacted n theirs ours clock p ≡ p
-  contacted-not clock h = rw h
-
--- ---- known: the search over the places from i on
-
--- the peers from place i on
-abbrev pub peers_from : Peers → ℕ → List ModelPeer
-peers_from p i = map peer_of (drop i (take p.count p.list))
-
-pub known_start : (f : ModelPeer → Bool) (p : Peers) → any f (peers_of p) ≡ any f (peers_from p 0)
-unfolding peers_of
-known_start f p = refl
-
-module _ (f : ModelPeer → Bool) (p : Peers) (k : PeersRep p) (i : ℕ) where
-  pub known_end : p.count ≤ i → any f (peers_from p i) ≡ false
-  known_end h = rw (drop_of_length-le (take p.count p.list) {i = i} (rw (first_count p k) h))
-
-  module _ (d : Peer) (h : i < p.count) where
-    from_next : peers_from p i ≡ peer_of (get_or p.list i d) ∷ peers_from p (i + 1)
-    from_next =
-        rw (add-one i, drop-cons (take p.count p.list) i d (rw (first_count p k) h), get_or-take p.count p.list i d h)
-
-    pub known-here : f (peer_of (get_or p.list i d)) ≡ true → any f (peers_from p i) ≡ true
-    known-here e = rw (from_next, e)
-
-    pub known_on : f (peer_of (get_or p.list i d)) ≡ false → any f (peers_from p i) ≡ any f (peers_from p (i + 1))
-    known_on e = rw (from_next, e)
 
 -- ---- heard: the peers before place i done, the rest to do
 

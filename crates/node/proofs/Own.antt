@@ -1,22 +1,14 @@
 -- Our own node: where it stands in the table, and its entry in the model. Assumes nothing.
 use mathlib.Core.Path.{◌≡◌, ap, ◌∙◌}
-use mathlib.Core.Bool.{true}
 use mathlib.Core.List.{List}
 use Prim.Native.Nat.{ℕ}
 use lib.ListN.{length}
-use Rattle.base.specs.Lists.{is_some}
-use Rattle.base.proofs.Tests.{no_way}
-use Rattle.table.specs.View.{view, data_of, seen, meta_at, Kept, Stands, Gap}
-use Rattle.table.specs.declared.Table.{Table}
-use Rattle.table.proofs.Tables.{look-stands, look_gap, data_length}
-use Rattle.model.specs.Table.{Entry, look}
+use Rattle.table.specs.View.{data_of, seen, meta_at, Stands}
+use Rattle.table.proofs.Tables.{look-stands, data_length}
+use Rattle.model.specs.Table.{Entry}
 use Rattle.model.specs.State.{own_entry, own_seq, own_data}
 use Rattle.node.specs.View.{state_of, Rep}
 use Rattle.node.specs.declared.State.{State}
-
--- a node that is held is not missing
-pub held-there : (t : Table) (m : List ℕ) (own i : ℕ) → Kept t m → is_some (look own (view t m)) ≡ true → ¬ Gap t own i
-held-there t m own i k h g = no_way (is_some (look own (view t m))) h (ap is_some (look_gap t k.arranged own i m g))
 
 module _ (s : State) (m : List ℕ) (i : ℕ) (k : Rep s m) (h : Stands s.table s.own i) where
   pub own-entry : own_entry (state_of s m) ≡ seen m (meta_at s.table i)

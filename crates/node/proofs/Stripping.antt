@@ -7,11 +7,10 @@ use native.Mathlib.Omega.{arith}
 use native.Mathlib.Numerals.{add-one}
 use lib.ListN.{length, get_or, take, drop, set, length-drop, length-append}
 use lib.Seq.{take-suc-set, drop-drop}
-use Rattle.base.specs.Bytes.{same}
 use Rattle.base.specs.Lists.{keep_by}
 use Rattle.base.specs.Memory.{part, written}
 use Rattle.base.proofs.Lists.{take_drop_take, part-is}
-use Rattle.base.proofs.Marks.{not_at, keep_by_nil, keep_by_end, keep_by_next, keep_by_in, keep_by_out, keep_by_map}
+use Rattle.base.proofs.Marks.{not_at, keep_by_nil, keep_by_in, keep_by_out, keep_by_map}
 use Rattle.base.proofs.Written.{part_length, part-rest, part-behind, written_none, written_append, written-length}
 use Rattle.wire.specs.Row.{is_row, tlvs}
 use Rattle.wire.specs.Order.{good}
@@ -32,7 +31,6 @@ use Rattle.node.specs.View.{peer_of, peers_of, state_of, PeersRep, Rep, Publishe
 use Rattle.node.specs.declared.State.{State}
 use Rattle.node.specs.declared.peers.Peer.{Peer}
 use Rattle.node.specs.declared.peers.Peers.{Peers}
-use Rattle.node.proofs.Contacts.{no_peer, peer-at, peers-length}
 use Rattle.node.proofs.Parts.{state-peers, put_table, put_peers}
 use Rattle.node.proofs.Own.{own-seq}
 use Rattle.node.proofs.Moves.{published_then, peers_moved}
@@ -44,31 +42,6 @@ use Rattle.node.proofs.Editing.{own-part, slot-room, slot_asks, slot-published}
 pub link_is : (p : Peer) {t : List ℕ} → t ≡ peer_tlv (record { node = p.node; theirs = p.theirs; ours = p.ours; contact = 0 }) → t ≡ peer_tlv (peer_of p)
 unfolding peer_tlv
 link_is p e = e
-
--- among those from place i on
-abbrev pub named_from : List Bool → Peers → ℕ → List ℕ → Bool
-named_from marks p i t = names (keep_by (drop i marks) (drop i (peers_of p))) t
-
-module _ (marks : List Bool) (p : Peers) (k : PeersRep p) (t : List ℕ) (i : ℕ) where
-  pub named_end : p.count ≤ i → named_from marks p i t ≡ false
-  named_end h = rw (keep_by_end marks (peers_of p) i (rw (peers-length p k) h))
-
-  module _ (h : i < p.count) where
-    inside : i < length (peers_of p)
-    inside = rw (peers-length p k) h
-
-    pub named_unmarked : get_or marks i false ≡ false → named_from marks p i t ≡ named_from marks p (i + 1) t
-    named_unmarked e = rw (keep_by_next no_peer marks (peers_of p) i inside, e)
-
-    module _ (d : Peer) {b : Bool} (w : b ≡ same (peer_tlv (peer_of (get_or p.list i d))) t) (e : get_or marks i false ≡ true) where
-      it_is : b ≡ same (peer_tlv (get_or (peers_of p) i no_peer)) t
-      it_is = w ∙ ap (λ (q : ModelPeer). same (peer_tlv q) t) (peer-at p i d k h)
-
-      pub named_here : b ≡ true → named_from marks p i t ≡ true
-      named_here q = rw (keep_by_next no_peer marks (peers_of p) i inside, e, ← it_is, q)
-
-      pub named_other : b ≡ false → named_from marks p i t ≡ named_from marks p (i + 1) t
-      named_other q = rw (keep_by_next no_peer marks (peers_of p) i inside, e, ← it_is, q)
 
 -- ---- node data without their Peer TLVs, TLV by TLV
 

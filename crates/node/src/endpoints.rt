@@ -12,20 +12,16 @@ pub fn endpoint_at(s: State, i: u32) -> Endpoint
     requires { (length s.endpoints ≡ most_endpoints) × ((1 ≤ i) × (i ≤ most_endpoints)) }
     ensures { (m : List ℕ) → endpoint_of result ≡ endpoint_at i (state_of s m) }
 {
-    let k = (i - 1) as usize;
-    let es = s.endpoints;
-    es[k]
+    s.endpoints[(i - 1) as usize]
 }
 
 // The state with e for endpoint i.
-pub fn with_endpoint(s: State, i: u32, e: Endpoint) -> State
+pub fn with_endpoint(mut s: State, i: u32, e: Endpoint) -> State
     requires { (length s.endpoints ≡ most_endpoints) × ((1 ≤ i) × (i ≤ most_endpoints)) }
     ensures { ((m : List ℕ) → Rep s m → Rep result m) × ((m : List ℕ) → state_of result m ≡ with_endpoint i (endpoint_of e) (state_of s m)) × (result.table ≡ s.table) }
 {
-    let k = (i - 1) as usize;
-    let mut r = s;
-    r.endpoints[k] = e;
-    r
+    s.endpoints[(i - 1) as usize] = e;
+    s
 }
 
 // What a sending at the reading fixes for the next keep-alive.
@@ -33,5 +29,5 @@ pub fn quiet_from(clock: u64, random: u32) -> u64
     requires { clock ≤ last_reading }
     ensures { result ≡ quiet_from clock random }
 {
-    clock + (random as u64) % (MOST_DELAY + 1)
+    clock + u64::from(random) % (MOST_DELAY + 1)
 }

@@ -17,8 +17,7 @@ use base::memory::move_down;
 use message::peer_tlv;
 use model::figures::MOST_PEERS;
 use model::sequence::advanced;
-use table::{meta_at, publish_slot, start_of};
-use wire::order::is_same;
+use table::{Version, meta_at, publish_slot, start_of};
 use wire::row::tlv_at;
 
 // The bytes are the peer's Peer TLV.
@@ -26,7 +25,7 @@ fn is_link(tlv: &[u8], p: Peer) -> bool
     ensures { result ≡ same (peer_tlv (peer_of p)) tlv.now }
 {
     let link = peer_tlv(p.node, p.theirs, p.ours);
-    is_same(&link, tlv)
+    &link[..] == tlv
 }
 
 // The bytes are the Peer TLV of a marked peer.
@@ -34,17 +33,10 @@ fn is_marked_link(tlv: &[u8], p: Peers, marks: [bool; MOST_PEERS]) -> bool
     requires { PeersRep p }
     ensures { result ≡ any (λ q. same (peer_tlv q) tlv.now) (keep_by marks (peers_of p)) }
 {
-    let count = p.count;
-    let mut i = 0;
-    while i < count {
-        if marks[i] {
-            if is_link(tlv, p.list[i]) {
-                return true;
-            }
-        }
-        i += 1;
-    }
-    false
+    marks
+        .iter()
+        .zip(&p.list[..p.count])
+        .any(|(goes, q)| *goes && is_link(tlv, *q))
 }
 
 // Takes the marked peers' Peer TLVs out of the `len` bytes of TLVs at `start`, in one pass; the length of what is left.
@@ -55,6 +47,7 @@ fn strip(mem: &mut [u8], start: usize, len: usize, p: Peers, marks: [bool; MOST_
     let end = start + len;
     let mut at = 0;
     let mut to = 0;
+    // The bytes move on the way, so no iterator can hold them.
     while at < len {
         let h = tlv_at(&mem[start..end], at);
         let a = start + at;
@@ -77,34 +70,28 @@ fn staying(p: Peers, marks: [bool; MOST_PEERS]) -> Peers
     requires { PeersRep p }
     ensures { PeersRep result × (peers_of result ≡ keep_by (map not marks) (peers_of p)) }
 {
-    let count = p.count;
     let mut r = p;
     let mut j = 0;
-    let mut i = 0;
-    while i < count {
-        let e = p.list[i];
-        let goes = marks[i];
-        i += 1;
-        if goes {
-            continue;
+    for i in 0..p.count {
+        if !marks[i] {
+            r.list[j] = p.list[i];
+            j += 1;
         }
-        r.list[j] = e;
-        j += 1;
     }
     r.count = j;
     r
 }
 
 // The marked peers go: our data are published without their Peer TLVs.
-pub fn drop_peers(s: State, mem: &mut [u8], clock: u64, marks: [bool; MOST_PEERS]) -> State
+pub fn drop_peers(mut s: State, mem: &mut [u8], clock: u64, marks: [bool; MOST_PEERS]) -> State
     requires { Rep s mem.old × (Held s mem.old × (good data_limit (own_data (state_of s mem.old)) ≡ true)) }
     ensures { Published (with_peers (keep_by (map not marks) (state_of s mem.old).peers) (publish clock (without_peers (keep_by marks (state_of s mem.old).peers) (own_data (state_of s mem.old))) (state_of s mem.old))) s mem.old result mem.new }
 {
     let i = own_place(s.table, mem, s.own);
     let e = meta_at(s.table, i);
     let len = strip(mem, start_of(e), e.len as usize, s.peers, marks);
-    let mut r = s;
-    r.table = publish_slot(s.table, mem, i, s.own, advanced(e.seq, 1), clock, len);
-    r.peers = staying(s.peers, marks);
-    r
+    let v = Version::anew(s.own, advanced(e.seq, 1), clock);
+    s.table = publish_slot(s.table, mem, i, v, len);
+    s.peers = staying(s.peers, marks);
+    s
 }

@@ -20,6 +20,8 @@ pub struct Peer {
     pub contact: u64,
 }
 
+// The list of the peers with its count beside it: the C interface.
+
 // The peers, in the order in which they came: the first count of the list.
 #[repr(C)]
 #[derive(Clone, Copy)]
@@ -28,17 +30,11 @@ pub struct Peers {
     pub list: [Peer; MOST_PEERS],
 }
 
-// The peer has this node, endpoint of its own and endpoint of ours.
+// The peer has this node, endpoint of its own and endpoint of ours. A struct of the three would be made for the call alone.
 pub fn is_peer(p: Peer, node: u32, theirs: u32, ours: u32) -> bool
     ensures { result ≡ is_peer node theirs ours (peer_of p) }
 {
-    if p.node != node {
-        return false;
-    }
-    if p.theirs != theirs {
-        return false;
-    }
-    p.ours == ours
+    p.node == node && p.theirs == theirs && p.ours == ours
 }
 
 // Some peer has them.
@@ -46,52 +42,43 @@ pub fn is_known(p: Peers, node: u32, theirs: u32, ours: u32) -> bool
     requires { PeersRep p }
     ensures { result ≡ any (is_peer node theirs ours) (peers_of p) }
 {
-    let count = p.count;
-    let mut i = 0;
-    while i < count {
-        if is_peer(p.list[i], node, theirs, ours) {
-            return true;
-        }
-        i += 1;
-    }
-    false
+    p.list[..p.count]
+        .iter()
+        .any(|e| is_peer(*e, node, theirs, ours))
 }
 
 // The peer, heard now if it has them.
 fn contacted(p: Peer, node: u32, theirs: u32, ours: u32, clock: u64) -> Peer
     ensures { peer_of result ≡ contacted node theirs ours clock (peer_of p) }
 {
-    let mut r = p;
     if is_peer(p, node, theirs, ours) {
-        r.contact = clock;
+        Peer {
+            contact: clock,
+            ..p
+        }
+    } else {
+        p
     }
-    r
 }
 
 // The peers, the one that has them heard now.
-pub fn with_contact(p: Peers, node: u32, theirs: u32, ours: u32, clock: u64) -> Peers
+pub fn with_contact(mut p: Peers, node: u32, theirs: u32, ours: u32, clock: u64) -> Peers
     requires { PeersRep p }
     ensures { PeersRep result × (peers_of result ≡ map (contacted node theirs ours clock) (peers_of p)) }
 {
-    let count = p.count;
-    let mut r = p;
-    let mut i = 0;
-    while i < count {
-        let e = r.list[i];
-        r.list[i] = contacted(e, node, theirs, ours, clock);
-        i += 1;
+    // By index: of an `iter_mut` over a part of the list the proof knows nothing afterwards.
+    for i in 0..p.count {
+        p.list[i] = contacted(p.list[i], node, theirs, ours, clock);
     }
-    r
+    p
 }
 
 // One peer more, the last.
-pub fn add(p: Peers, e: Peer) -> Peers
+pub fn add(mut p: Peers, e: Peer) -> Peers
     requires { PeersRep p × (p.count < most_peers) }
     ensures { PeersRep result × (peers_of result ≡ peers_of p ++ (peer_of e ∷ [])) }
 {
-    let count = p.count;
-    let mut r = p;
-    r.list[count] = e;
-    r.count = count + 1;
-    r
+    p.list[p.count] = e;
+    p.count += 1;
+    p
 }

@@ -11,11 +11,13 @@ ghost use Rattle.node.specs.View.{state_of, Rep, Held, Published};
 
 use crate::State;
 use base::memory::{insert_bytes, remove_bytes};
-use table::{Found, Table, data_of, find, insert_tlv, meta_at, publish_slot, remove_tlv, start_of};
+use table::{
+    Table, Version, data_of, find, insert_tlv, meta_at, publish_slot, remove_tlv, start_of,
+};
 use wire::order::place_of;
 
 // `size` bytes of our data, from `start` on.
-#[derive(Clone, Copy)]
+#[derive(Clone, Copy, PartialEq, Eq, Debug)]
 pub struct Span {
     pub start: usize,
     pub size: usize,
@@ -26,11 +28,7 @@ pub fn own_place(t: Table, mem: &[u8], own: u32) -> usize
     requires { Kept t mem.now × (is_some (look own (view t mem.now)) ≡ true) }
     ensures { Stands t own result }
 {
-    let found = find(t, own);
-    match found {
-        Found::At(i) => i,
-        Found::Missing(i) => i,
-    }
+    find(t, own).unwrap()
 }
 
 // Our own node's sequence number.
@@ -38,9 +36,7 @@ pub fn own_seq(s: State, mem: &[u8]) -> u32
     requires { Rep s mem.now × Held s mem.now }
     ensures { result ≡ own_seq (state_of s mem.now) }
 {
-    let i = own_place(s.table, mem, s.own);
-    let e = meta_at(s.table, i);
-    e.seq
+    meta_at(s.table, own_place(s.table, mem, s.own)).seq
 }
 
 // What our own node publishes, as a part of the table memory.
@@ -48,31 +44,28 @@ pub fn own_data<'a>(s: State, mem: &'a [u8]) -> &'a [u8]
     requires { Rep s mem.now × Held s mem.now }
     ensures { result.now ≡ own_data (state_of s mem.now) }
 {
-    let i = own_place(s.table, mem, s.own);
-    data_of(s.table, mem, i)
+    data_of(s.table, mem, own_place(s.table, mem, s.own))
 }
 
-// The number `seq` for our own node, and a TLV put in its place in its data.
-pub fn publish_with(s: State, mem: &mut [u8], clock: u64, seq: u32, tlv: &[u8]) -> State
+// The number `seq` for our own node, and a TLV put in its place in its data. This, `publish_cut` and `publish_swap` are three steps of the table.
+pub fn publish_with(mut s: State, mem: &mut [u8], clock: u64, seq: u32, tlv: &[u8]) -> State
     requires { Rep s mem.old × (Held s mem.old × ((is_row (own_data (state_of s mem.old)) ≡ true) × (length (own_data (state_of s mem.old)) + length tlv.now ≤ data_limit))) }
     ensures { Published (publish_as clock seq (with_tlv tlv.now (own_data (state_of s mem.old))) (state_of s mem.old)) s mem.old result mem.new }
 {
     let i = own_place(s.table, mem, s.own);
     let p = place_of(data_of(s.table, mem, i), tlv);
-    let mut r = s;
-    r.table = insert_tlv(s.table, mem, i, s.own, seq, clock, p, tlv);
-    r
+    s.table = insert_tlv(s.table, mem, i, Version::anew(s.own, seq, clock), p, tlv);
+    s
 }
 
 // The number `seq` for our own node, and its data without the n bytes from place p.
-pub fn publish_cut(s: State, mem: &mut [u8], clock: u64, seq: u32, p: usize, n: usize) -> State
+pub fn publish_cut(mut s: State, mem: &mut [u8], clock: u64, seq: u32, p: usize, n: usize) -> State
     requires { Rep s mem.old × (Held s mem.old × (p + n ≤ length (own_data (state_of s mem.old)))) }
     ensures { Published (publish_as clock seq (cut (own_data (state_of s mem.old)) p n) (state_of s mem.old)) s mem.old result mem.new }
 {
     let i = own_place(s.table, mem, s.own);
-    let mut r = s;
-    r.table = remove_tlv(s.table, mem, i, s.own, seq, clock, p, n);
-    r
+    s.table = remove_tlv(s.table, mem, i, Version::anew(s.own, seq, clock), p, n);
+    s
 }
 
 // Of the `len` bytes of TLVs that stand at `at` the n bytes from place p go, and a TLV is put in its place; how many bytes stand there then.
@@ -82,15 +75,14 @@ fn swap_bytes(mem: &mut [u8], at: usize, len: usize, p: usize, n: usize, tlv: &[
 {
     remove_bytes(mem, at, len, p, n);
     let left = len - n;
-    let end = at + left;
-    let q = place_of(&mem[at..end], tlv);
+    let q = place_of(&mem[at..at + left], tlv);
     insert_bytes(mem, at, left, q, tlv);
     left + tlv.len()
 }
 
 // The number `seq` for our own node, and in its data a TLV in its place for the n bytes from place p. With n = 0 nothing goes, with an empty `tlv` nothing comes.
 pub fn publish_swap(
-    s: State,
+    mut s: State,
     mem: &mut [u8],
     clock: u64,
     seq: u32,
@@ -104,7 +96,6 @@ pub fn publish_swap(
     let i = own_place(s.table, mem, s.own);
     let e = meta_at(s.table, i);
     let len = swap_bytes(mem, start_of(e), e.len as usize, p, n, tlv);
-    let mut r = s;
-    r.table = publish_slot(s.table, mem, i, s.own, seq, clock, len);
-    r
+    s.table = publish_slot(s.table, mem, i, Version::anew(s.own, seq, clock), len);
+    s
 }

@@ -1,5 +1,5 @@
 -- The marks of the marking are those of the definition. Assumes nothing.
-use mathlib.Core.Path.{◌≡◌, sym, ap, ◌∙◌}
+use mathlib.Core.Path.{◌≡◌, refl, sym, ap, ◌∙◌}
 use mathlib.Core.Bool.{Bool, true, false, not}
 use mathlib.Core.List.{List, ◌++◌, map}
 use Prim.Native.Nat.{ℕ, ◌+◌, ◌≤◌, ◌<◌}
@@ -17,9 +17,9 @@ use Rattle.model.specs.State.{no_entry}
 use Rattle.model.specs.Reach.{vertices, is_node, level0, others, levels, met, marked, in_reach, reached}
 use Rattle.model.proofs.Shortest.{node_of, nodes_ascend}
 use Rattle.table.specs.declared.Table.{Table}
-use Rattle.table.specs.declared.Found.{Found}
-use Rattle.table.specs.declared.Found.TheVariants.{At, Missing}
-use Rattle.table.specs.View.{no_meta, seen, view, Arranged, Stands, Gap, Finding}
+use Rattle.std.specs.Prelude.{Result, Ok, Err}
+use Rattle.std.specs.Result.{IsOk}
+use Rattle.table.specs.View.{no_meta, seen, view, Arranged, Stands, Finding}
 use Rattle.table.proofs.Tables.{view-length, view-at, view-ascending, look_gap}
 use Rattle.reach.specs.declared.mark.Traversed.{Traversed}
 use Rattle.reach.specs.Marks.{marked_of, no_vertex, levels_after, Spread, Marking, Levelled}
@@ -74,15 +74,10 @@ module _ (own clock : ℕ) (t : List Entry) (a : Ascending id_of t) (few : lengt
 
 -- ---- as the code finds our own node
 
-module _ (t : Table) (m : List ℕ) (k : Arranged t) (own : ℕ) (f : Found) (h : Finding t own f) where
-  pub found_at : (i : ℕ) → f ≡ At i → Stands t own i
-  found_at i e = rw e at h
-
-  -- our own node is never missing
-  pub never_missing : {X : Type 0} (i : ℕ) → f ≡ Missing i → is_some (look own (view t m)) ≡ true → X
-  never_missing i e s =
-      let g : Gap t own i = rw e at h in
-      no_way (is_some (look own (view t m))) s (ap is_some (look_gap t k own i m g))
+-- it is never missing
+pub found_own : (t : Table) (m : List ℕ) → Arranged t → (own : ℕ) (f : Result ℕ ℕ) → Finding t own f → is_some (look own (view t m)) ≡ true → IsOk f
+found_own t m k own (Ok i) h s = refl
+found_own t m k own (Err i) g s = no_way (is_some (look own (view t m))) s (ap is_some (look_gap t k own i m g))
 
 pub mark_by : (own clock : ℕ) (t : Table) (m : List ℕ) → Arranged t → (i : ℕ) → Stands t own i → (first : List Bool) (r : Traversed) → first ≡ set (replicate most_nodes false) i true
     → Spread clock (view t m) first r → Levelled own clock (view t m) r

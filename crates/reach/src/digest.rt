@@ -11,7 +11,7 @@ use base::big_endian::put_u32;
 use base::memory::store;
 use model::figures::MOST_NODES;
 use sha256::hash16;
-use table::{Entry, Table, meta_at};
+use table::{Entry, Table};
 
 // Bytes of one node's part, and of all parts.
 const PART: usize = 20;
@@ -20,12 +20,11 @@ const PARTS: usize = MOST_NODES * PART;
 
 // Number and digest of one node to place `at`.
 fn put_part(d: &mut [u8], at: usize, e: Entry)
-    requires { (at + 20 ≤ length d.old) × (length e.hash ≡ 16) }
-    ensures { d.new ≡ written d.old at (big32 e.seq ++ e.hash) }
+    requires { at + 20 ≤ length d.old }
+    ensures { (length e.hash ≡ 16) × (d.new ≡ written d.old at (big32 e.seq ++ e.hash)) }
 {
     put_u32(d, at, e.seq);
-    let hash = e.hash;
-    store(d, at + 4, &hash);
+    store(d, at + 4, &e.hash);
 }
 
 // The digest over the marked nodes; the digest of each data is kept with the table.
@@ -33,16 +32,13 @@ pub fn network_digest(t: Table, marks: [bool; MOST_NODES]) -> [u8; 16]
     requires { Arranged t }
     ensures { (m : List ℕ) → Kept t m → result ≡ digest_of (statements (keep_by marks (view t m))) }
 {
-    let count = t.count;
     let mut d = [0u8; PARTS];
     let mut n = 0;
-    let mut i = 0;
-    while i < count {
-        if marks[i] {
-            put_part(&mut d, n, meta_at(t, i));
+    for (e, marked) in t.entries[..t.count].iter().zip(&marks) {
+        if *marked {
+            put_part(&mut d, n, *e);
             n += PART;
         }
-        i += 1;
     }
     hash16(&d[..n])
 }

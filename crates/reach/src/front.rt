@@ -7,22 +7,20 @@ ghost use Rattle.table.specs.View.{data_of, FitMeta};
 ghost use Rattle.reach.specs.Parts.{Parted, Front};
 
 use table::{Entry, bytes_of};
-use wire::row::tlv_at;
+use wire::kind::Kind;
+use wire::tlvs::tlvs_from;
 
-// The place, from `at` on, of the first TLV whose type is `least` or more; the end where there is none.
+// The place, from `at` on, of the first TLV whose type is `least` or more; the end where there is none. Types are numbers here, since their order counts.
 pub fn place_from(d: &[u8], at: usize, least: u16) -> usize
     requires { (at ≤ length d.now) × (is_row (drop at d.now) ≡ true) }
     ensures { Parted d.now at least result }
 {
-    let mut i = at;
-    while i < d.len() {
-        let h = tlv_at(d, i);
+    for h in tlvs_from(d, at) {
         if least <= h.kind {
-            return i;
+            return h.at;
         }
-        i = h.next;
     }
-    i
+    d.len()
 }
 
 // The part up to the first TLV above the Peer TLVs.
@@ -30,7 +28,7 @@ pub fn links_front<'a>(d: &'a [u8]) -> &'a [u8]
     requires { good data_limit d.now ≡ true }
     ensures { Front d.now result.now }
 {
-    let end = place_from(d, 0, 9);
+    let end = place_from(d, 0, Kind::Peer as u16 + 1);
     &d[0..end]
 }
 

@@ -3,9 +3,9 @@ ghost use Rattle.table.specs.View.{Arranged};
 ghost use Rattle.reach.specs.Marks.{Listed};
 
 use model::figures::MOST_NODES;
-use table::{Table, meta_at};
+use table::Table;
 
-// Identifiers of nodes: the first `count`.
+// Identifiers of nodes: the first `count`. Fixed memory, no heap.
 #[derive(Clone, Copy)]
 pub struct Nodes {
     pub count: usize,
@@ -17,17 +17,13 @@ pub fn marked_nodes(t: Table, marks: [bool; MOST_NODES]) -> Nodes
     requires { Arranged t }
     ensures { Listed marks t result }
 {
-    let count = t.count;
     let mut list = [0u32; MOST_NODES];
     let mut n = 0;
-    let mut i = 0;
-    while i < count {
-        if marks[i] {
-            let e = meta_at(t, i);
+    for (e, marked) in t.entries[..t.count].iter().zip(&marks) {
+        if *marked {
             list[n] = e.id;
             n += 1;
         }
-        i += 1;
     }
     Nodes { count: n, list }
 }

@@ -9,17 +9,15 @@ ghost use Rattle.reach.specs.Marks.{Readable, Legible, Wide, leads, NextLevel, L
 use crate::front::front_of;
 use crate::link::is_joined;
 use model::figures::{AGE_LIMIT, MOST_NODES};
-use table::{Entry, Found, Table, age_at, find};
+use std::array::from_fn;
+use table::{Entry, Table, age_at, find};
 
 // The node of entry e is young, and joined to that of entry f.
 fn is_leading(e: Entry, f: Entry, mem: &[u8], clock: u64) -> bool
     requires { Legible clock mem.now e × Legible clock mem.now f }
     ensures { result ≡ leads clock (seen mem.now e) (seen mem.now f) }
 {
-    if AGE_LIMIT <= age_at(e, clock) {
-        return false;
-    }
-    is_joined(front_of(e, mem), e.id, front_of(f, mem), f.id)
+    age_at(e, clock) < AGE_LIMIT && is_joined(front_of(e, mem), e.id, front_of(f, mem), f.id)
 }
 
 // The nodes not yet met that the level leads to.
@@ -33,24 +31,15 @@ fn next_level(
     requires { Readable clock t mem.now }
     ensures { NextLevel clock (view t mem.now) level met result }
 {
-    let count = t.count;
     let mut next = [false; MOST_NODES];
-    let mut r = 0;
-    while r < count {
+    for r in 0..t.count {
         if level[r] {
-            let e = t.entries[r];
-            let mut v = 0;
-            while v < count {
-                if !met[v] {
-                    let f = t.entries[v];
-                    if is_leading(e, f, mem, clock) {
-                        next[v] = true;
-                    }
+            for v in 0..t.count {
+                if !met[v] && is_leading(t.entries[r], t.entries[v], mem, clock) {
+                    next[v] = true;
                 }
-                v += 1;
             }
         }
-        r += 1;
     }
     next
 }
@@ -59,29 +48,14 @@ fn next_level(
 fn is_empty(marks: [bool; MOST_NODES]) -> bool
     ensures { result ≡ not (any (λ b. b) marks) }
 {
-    let mut i = 0;
-    while i < MOST_NODES {
-        if marks[i] {
-            return false;
-        }
-        i += 1;
-    }
-    true
+    !marks.iter().any(|m| *m)
 }
 
 // The marks of either.
 fn either(x: [bool; MOST_NODES], y: [bool; MOST_NODES]) -> [bool; MOST_NODES]
     ensures { Wide result × ((i : ℕ) → i < most_nodes → get_or result i false ≡ get_or x i false || get_or y i false) }
 {
-    let mut r = x;
-    let mut i = 0;
-    while i < MOST_NODES {
-        if y[i] {
-            r[i] = true;
-        }
-        i += 1;
-    }
-    r
+    from_fn(|i| x[i] || y[i])
 }
 
 // The nodes met so far, and the last level of them.
@@ -119,8 +93,7 @@ fn spread(t: Table, mem: &[u8], clock: u64, first: [bool; MOST_NODES]) -> Traver
         met: first,
         level: first,
     };
-    let mut k: usize = 0;
-    while k < MOST_NODES {
+    for k in 0..MOST_NODES {
         let met = w.met;
         let level = w.level;
         let next = next_level(t, mem, clock, level, met);
@@ -131,10 +104,12 @@ fn spread(t: Table, mem: &[u8], clock: u64, first: [bool; MOST_NODES]) -> Traver
             };
         }
         w = onward(w, next);
-        k += 1;
     }
     let marks = w.met;
-    Traversed { marks, levels: k }
+    Traversed {
+        marks,
+        levels: MOST_NODES,
+    }
 }
 
 // The marks of the reachable nodes, and how many levels come after our own.
@@ -143,13 +118,7 @@ pub fn mark(t: Table, mem: &[u8], own: u32, clock: u64) -> Traversed
     ensures { Levelled own clock (view t mem.now) result }
 {
     let mut first = [false; MOST_NODES];
-    let found = find(t, own);
-    let Found::At(i) = found else {
-        return Traversed {
-            marks: first,
-            levels: 0,
-        };
-    };
+    let i = find(t, own).unwrap();
     first[i] = true;
     spread(t, mem, clock, first)
 }

@@ -1,17 +1,20 @@
 -- Loading entry by entry: the judgement of the whole, and the table as it fills. Assumes nothing.
 use mathlib.Core.Path.{◌≡◌, refl, sym, ap, ◌∙◌, subst}
-use mathlib.Core.Bool.{Bool, true, false, cond, ◌||◌, or-false, or-true}
+use mathlib.Core.Bool.{Bool, true, false, cond, ◌&&◌, ◌||◌, and-true, and-false, or-false, or-true}
 use mathlib.Core.List.{List, [], ◌∷◌, ◌++◌}
 use mathlib.Core.Option.{Option, none, some}
 use Prim.Native.Nat.{ℕ, ◌+◌, ◌-◌, ◌≤◌, ◌<◌}
 use native.Mathlib.Omega.{arith}
-use lib.ListN.{length, take, drop, length-drop, length-append}
+use lib.ListN.{length, take, drop, length-take, length-drop, length-append}
+use lib.Dec.{eqb}
+use borrow.Author.Tests.{eqb-true, eqb-false}
+use Rattle.std.specs.Prelude.{Some}
 use Rattle.base.specs.Lists.{or_else, cons_to, is_some, All}
 use Rattle.base.specs.Sorted.{find}
-use Rattle.base.proofs.Tests.{no_way, by_order}
+use Rattle.base.proofs.Tests.{no_way, by_test, by_order}
 use Rattle.base.proofs.Lists.{all_more}
 use Rattle.base.proofs.Sorted.{find_yes, find_no, insert-last}
-use Rattle.model.specs.Figures.{table_bytes}
+use Rattle.model.specs.Figures.{data_limit, table_bytes}
 use Rattle.model.specs.Table.{Entry, entry_of, id_of, look, put, stamp}
 use Rattle.model.specs.Snapshot.{load_entries, holds_own, load}
 use Rattle.model.proofs.Snapshots.{last_end, last_more, onto, onto-start, onto-next, onto_end}
@@ -19,27 +22,17 @@ use Rattle.table.specs.declared.Table.{Table}
 use Rattle.table.specs.View.{meta_at, view, Kept, Lays, Gap, Stored}
 use Rattle.table.proofs.Tables.{view-length, view-each, all-stored}
 use Rattle.table.proofs.Laying.{stays_self, kept-wrote, lays_then, stored_one}
-use Rattle.snapshot.specs.declared.read.EntryRead.{EntryRead}
-use Rattle.snapshot.specs.declared.read.EntryRead.TheVariants.{Whole, NoEntry}
-use Rattle.snapshot.specs.declared.read.HeadRead.{HeadRead}
-use Rattle.snapshot.specs.declared.read.HeadRead.TheVariants.{Head, NoHead}
-use Rattle.snapshot.specs.Answers.{EntryAt, ReadEntry, Heads, ReadHead, LoadedFrom}
-use Rattle.snapshot.proofs.Reading.{Stops}
+use Rattle.snapshot.specs.declared.read.Saved.{Saved}
+use Rattle.snapshot.specs.declared.read.Head.{Head}
+use Rattle.snapshot.specs.declared.read.Cursor.{Cursor}
+use Rattle.snapshot.specs.Answers.{entry_from, EntryAt, Stops, Went, Heads, Holds}
 
--- ---- what reading one entry answers
+-- ---- one entry, with a number of entries that are left: one fewer after it, or nothing loads
 
-module _ (s : List ℕ) (at low : ℕ) (r : EntryRead) (h : ReadEntry s at low r) where
-  pub entry-told : (node seq age start size : ℕ) → r ≡ Whole node seq age start size → EntryAt s at low node seq age start size
-  entry-told node seq age start size q = subst (ReadEntry s at low) q h
-
-  pub no_entry_lem : r ≡ NoEntry → Stops s at low
-  no_entry_lem q = subst (ReadEntry s at low) q h
-
--- the same with a number of entries that are left: one fewer after this one, or nothing loads
 module _ (s : List ℕ) (at low : ℕ) (clock count k : ℕ) (p : k < count) where
-  left_on : (node seq age start size : ℕ) → EntryAt s at low node seq age start size
-      → load_entries clock (count - k) low (drop at s) ≡ cons_to (entry_of node seq (take size (drop start s)) (stamp age clock)) (load_entries clock (count - (k + 1)) (node + 1) (drop (start + size) s))
-  left_on node seq age start size x = let e : count - k ≡ count - (k + 1) + 1 = omega arith in rw e (x.loads clock (count - (k + 1)))
+  left_on : (e : Saved) → EntryAt s at low e
+      → load_entries clock (count - k) low (drop at s) ≡ cons_to (entry_from clock s e) (load_entries clock (count - (k + 1)) (e.node + 1) (drop (e.start + e.size) s))
+  left_on e x = let q : count - k ≡ count - (k + 1) + 1 = omega arith in rw q (x.loads clock (count - (k + 1)))
 
   left_stops : Stops s at low → load_entries clock (count - k) low (drop at s) ≡ none
   left_stops x = let e : count - k ≡ count - (k + 1) + 1 = omega arith in rw e (x clock (count - (k + 1)))
@@ -72,17 +65,14 @@ judged-none : (own : ℕ) (held : Bool) → judged own held (some []) ≡ held
 unfolding judged look find
 judged-none own held = or-false held
 
--- past an entry of our own node, and of another
-module _ (own : ℕ) (held : Bool) (e : Entry) where
-  judged-own : (o : Option (List Entry)) → id_of e ≡ own → judged own held (cons_to e o) ≡ judged own true o
-  unfolding judged look
-  judged-own none q = refl
-  judged-own (some t) q = rw (find_yes id_of own e t q) (or-true held)
-
-  judged-other : (o : Option (List Entry)) → ¬ (id_of e ≡ own) → judged own held (cons_to e o) ≡ judged own held o
-  unfolding judged look
-  judged-other none q = refl
-  judged-other (some t) q = rw (find_no id_of own e t q)
+-- past an entry, of our own node or of another
+judged_on : (own : ℕ) (held : Bool) (e : Entry) (o : Option (List Entry)) → judged own held (cons_to e o) ≡ judged own (held || eqb (id_of e) own) o
+unfolding judged look
+judged_on own held e none = refl
+judged_on own held e (some t) =
+    by_test (eqb (id_of e) own)
+    (λ y. rw (find_yes id_of own e t (eqb-true (id_of e) own y), y, or-true held) refl)
+    (λ n. rw (find_no id_of own e t (eqb-false (id_of e) own n), n, or-false held) refl)
 
 -- k entries from place at on are read, up to place `place`; what is left, with what was held so far, is judged as the whole
 pub record Judging (s : List ℕ) (at count own place low : ℕ) (held : Bool) (k : ℕ) : Type 0 where
@@ -104,29 +94,22 @@ module _ (s : List ℕ) (at count own place low : ℕ) (held : Bool) (k : ℕ) (
   unfolding judged
   judged_stops p x = answer false (λ clock. ap (judged own held) (left_stops s place low clock count k p x))
 
-  pub judged_more : count ≤ k → place < length s → Judged s at count own false
+  pub judged_end : count ≤ k → Judged s at count own (held && eqb place (length s))
   unfolding judged
-  judged_more p h = answer false (λ clock. ap (judged own held) (left_more s place low clock count k p h))
+  judged_end p =
+      by_test (eqb place (length s))
+      (λ y. rw (y, and-true held) (answer held (λ clock. ap (judged own held) (left_end s place low clock count k p (omega (arith, eqb-true place (length s) y))) ∙ judged-none own held)))
+      (λ n. rw (n, and-false held) (answer false (λ clock. ap (judged own held) (left_more s place low clock count k p (omega (arith, eqb-false place (length s) n, j.inside))))))
 
-  pub judged_end : count ≤ k → length s ≤ place → Judged s at count own held
-  judged_end p h = answer held (λ clock. ap (judged own held) (left_end s place low clock count k p h) ∙ judged-none own held)
-
-  module _ (p : k < count) (node seq age start size : ℕ) (x : EntryAt s place low node seq age start size) where
-    past : (b : Bool) → ((clock : ℕ) (o : Option (List Entry)) → judged own held (cons_to (entry_of node seq (take size (drop start s)) (stamp age clock)) o) ≡ judged own b o)
-        → Judging s at count own (start + size) (node + 1) b (k + 1)
-    past b f =
-        record {
-          inside = x.within;
-          same = λ clock.
-              sym (f clock (load_entries clock (count - (k + 1)) (node + 1) (drop (start + size) s)))
-              ∙ ap (judged own held) (sym (left_on s place low clock count k p node seq age start size x)) ∙ j.same clock;
-        }
-
-    pub judging_own : node ≡ own → Judging s at count own (start + size) (node + 1) true (k + 1)
-    judging_own q = past true (λ clock o. judged-own own held (entry_of node seq (take size (drop start s)) (stamp age clock)) o q)
-
-    pub judging_other : ¬ (node ≡ own) → Judging s at count own (start + size) (node + 1) held (k + 1)
-    judging_other q = past held (λ clock o. judged-other own held (entry_of node seq (take size (drop start s)) (stamp age clock)) o q)
+  pub judging_next : k < count → (e : Saved) (c : Cursor) → Went s (record { place = place; low = low }) (Some e) c → Judging s at count own c.place c.low (held || eqb e.node own) (k + 1)
+  judging_next p e c x =
+      rw (x.1.0, x.1.1)
+      (record {
+        inside = x.0.within;
+        same = λ clock.
+            sym (judged_on own held (entry_from clock s e) (load_entries clock (count - (k + 1)) (e.node + 1) (drop (e.start + e.size) s)))
+            ∙ ap (judged own held) (sym (left_on s place low clock count k p e x.0)) ∙ j.same clock;
+      })
 
 -- ---- the table as it fills
 
@@ -157,52 +140,60 @@ filling_start clock s at count m t p h =
 
 module _ (clock : ℕ) (s : List ℕ) (at count : ℕ) (m₀ : List ℕ) (t : Table) (m : List ℕ) (place low k : ℕ) (f : Filling clock s at count m₀ t m place low k) where
   -- the next entry goes in at the end
-  module _ (p : k < count) (node seq age start size : ℕ) (x : EntryAt s place low node seq age start size) where
-    pub next_gap : Gap t node k
+  module _ (p : k < count) (e : Saved) (c : Cursor) (x : Went s (record { place = place; low = low }) (Some e) c) where
+    pub next_gap : Gap t e.node k
     next_gap = record { at = omega (arith, f.full); below = under; above = λ q. absurd (omega (arith, f.full)) }
       where
-        under : (j : ℕ) → j < k → (meta_at t j).id < node
+        under : (j : ℕ) → j < k → (meta_at t j).id < e.node
         under j q =
-            let c : j < t.count = omega (arith, f.full) in
-            let n : (meta_at t j).id < low = view-each t f.kept.arranged (λ e. id_of e < low) m j f.below c in
-            omega (arith, x.high)
+            let i : j < t.count = omega (arith, f.full) in
+            let n : (meta_at t j).id < low = view-each t f.kept.arranged (λ y. id_of y < low) m j f.below i in
+            omega (arith, x.0.high)
 
-    module _ (r : Table) (m' : List ℕ) (st : Stored (entry_of node seq (take (start + size - start) (drop start s)) (stamp age clock)) t m k r m') (l : length m' ≡ length m) where
-      under_node : (b : ℕ) → node ≤ b → All (λ e. id_of e < b) (view t m)
-      under_node b q = all_more (λ e. id_of e < low) (λ e. id_of e < b) (λ e n. omega (arith, x.high)) (view t m) f.below
+    next_size : c.place - e.start ≡ e.size
+    next_size = omega (arith, x.1.0)
 
-      grown : view r m' ≡ view t m ++ (entry_of node seq (take size (drop start s)) (stamp age clock) ∷ [])
+    pub next_short : length (take (c.place - e.start) (drop e.start s)) ≤ data_limit
+    next_short = rw next_size (omega (arith, length-take e.size (drop e.start s), x.0.short))
+
+    module _ (r : Table) (m' : List ℕ) (st : Stored (entry_of e.node e.seq (take (c.place - e.start) (drop e.start s)) (stamp e.age clock)) t m k r m') (l : length m' ≡ length m) where
+      abbrev new : Entry
+      new = entry_from clock s e
+
+      stored_new : Stored new t m k r m'
+      stored_new = subst (λ (i : ℕ). Stored (entry_of e.node e.seq (take i (drop e.start s)) (stamp e.age clock)) t m k r m') next_size st
+
+      under_node : (b : ℕ) → e.node ≤ b → All (λ y. id_of y < b) (view t m)
+      under_node b q = all_more (λ y. id_of y < low) (λ y. id_of y < b) (λ y n. omega (arith, x.0.high)) (view t m) f.below
+
+      grown : view r m' ≡ view t m ++ (new ∷ [])
       unfolding put
-      grown =
-          let e : start + size - start ≡ size = omega arith in
-          rw e at st.viewed ∙ insert-last id_of (entry_of node seq (take size (drop start s)) (stamp age clock)) (view t m) (under_node node (omega arith))
+      grown = stored_new.viewed ∙ insert-last id_of new (view t m) (under_node e.node (omega arith))
 
       laid_on : Lays m₀ (view r m') r m'
       laid_on =
-          let e : Entry = entry_of node seq (take (start + size - start) (drop start s)) (stamp age clock) in
-          let n : start + size - start ≡ size = omega arith in
-          subst (λ (es : List Entry). Lays m₀ es r m')
-          (ap (λ (i : ℕ). view t m ++ (entry_of node seq (take i (drop start s)) (stamp age clock) ∷ [])) n ∙ sym grown)
-          (lays_then t r m₀ (view t m) m (e ∷ []) m' f.lays (stored_one e t r m m' k f.kept st))
+          subst (λ (es : List Entry). Lays m₀ es r m') (sym grown)
+          (lays_then t r m₀ (view t m) m (new ∷ []) m' f.lays (stored_one new t r m m' k f.kept stored_new))
 
-      pub filling_next : Filling clock s at count m₀ r m' (start + size) (node + 1) (k + 1)
+      pub filling_next : Filling clock s at count m₀ r m' c.place c.low (k + 1)
       filling_next =
-          record {
-            inside = x.within;
+          rw (x.1.0, x.1.1)
+          (record {
+            inside = x.0.within;
             kept = st.kept;
             full =
-                let g = length-append (view t m) (entry_of node seq (take size (drop start s)) (stamp age clock) ∷ []) in
-                let c : length (view r m') ≡ length (view t m) + 1 = ap length grown ∙ g in
+                let g = length-append (view t m) (new ∷ []) in
+                let i : length (view r m') ≡ length (view t m) + 1 = ap length grown ∙ g in
                 omega (arith, view-length r st.kept.arranged m', view-length t f.kept.arranged m, f.full);
-            below = all-stored (λ e. id_of e < node + 1) (entry_of node seq (take (start + size - start) (drop start s)) (stamp age clock)) t r m m' k st (omega arith) (under_node (node + 1) (omega arith));
+            below = all-stored (λ y. id_of y < e.node + 1) new t r m m' k stored_new (omega arith) (under_node (e.node + 1) (omega arith));
             same =
                 rw grown
-                (sym (onto-next (view t m) (entry_of node seq (take size (drop start s)) (stamp age clock)) (load_entries clock (count - (k + 1)) (node + 1) (drop (start + size) s)))
-                ∙ ap (onto (view t m)) (sym (left_on s place low clock count k p node seq age start size x)) ∙ f.same);
+                (sym (onto-next (view t m) new (load_entries clock (count - (k + 1)) (e.node + 1) (drop (e.start + e.size) s)))
+                ∙ ap (onto (view t m)) (sym (left_on s place low clock count k p e x.0)) ∙ f.same);
             size = l ∙ f.size;
             beyond = st.beyond ∙ f.beyond;
             lays = laid_on;
-          }
+          })
 
   -- what was judged whole does not stop on the way, and ends with the last entry
   module _ (whole : is_some (load_entries clock count 0 (drop at s)) ≡ true) where
@@ -221,17 +212,6 @@ module _ (clock : ℕ) (s : List ℕ) (at count : ℕ) (m₀ : List ℕ) (t : Ta
 
 -- ---- the whole
 
-module _ (s : List ℕ) (r : HeadRead) (h : ReadHead s r) where
-  pub head_told : (own count next : ℕ) → r ≡ Head own count next → Heads s own count next
-  head_told own count next q = subst (ReadHead s) q h
-
-  pub no_head : r ≡ NoHead → (clock : ℕ) → load clock s ≡ none
-  no_head q = subst (ReadHead s) q h
-
-pub refused : (clock : ℕ) (s m : List ℕ) (own : ℕ) (t : Table) → load clock s ≡ none → LoadedFrom clock s m (record { ok = false; own = own; table = t }) m
-refused clock s m own t e =
-    record { judged = sym (ap is_some e); refused = λ q. refl; kept = λ q. no_way false q refl; loads = λ q. no_way false q refl; lays = λ q. no_way false q refl; size = refl; beyond = refl }
-
 some-not : {X : Type 0} (o : Option X) → is_some o ≡ false → o ≡ none
 some-not none e = refl
 some-not (some x) e = no_way true refl e
@@ -245,20 +225,20 @@ some-chosen true x e = refl
 some-chosen false x e = no_way false e refl
 
 -- what the judgement b of the entries behind the numbers says
-module _ (clock : ℕ) (s : List ℕ) (own count next : ℕ) (h : Heads s own count next) (b : Bool) (j : Judged s next count own b) where
+module _ (clock : ℕ) (s : List ℕ) (x : Head) (h : Heads s x) (b : Bool) (j : Judged s x.next x.count x.own b) where
   pub judged_no : b ≡ false → load clock s ≡ none
-  judged_no e = h.loads clock ∙ some-not (or_else (load_entries clock count 0 (drop next s)) none (holds_own own)) (sym (j clock) ∙ e)
+  judged_no e = h.loads clock ∙ some-not (or_else (load_entries clock x.count 0 (drop x.next s)) none (holds_own x.own)) (sym (j clock) ∙ e)
 
   module _ (e : b ≡ true) where
-    pub judged_yes : is_some (load_entries clock count 0 (drop next s)) ≡ true
-    judged_yes = some-before (load_entries clock count 0 (drop next s)) (holds_own own) (sym (j clock) ∙ e)
+    pub judged_yes : is_some (load_entries clock x.count 0 (drop x.next s)) ≡ true
+    judged_yes = some-before (load_entries clock x.count 0 (drop x.next s)) (holds_own x.own) (sym (j clock) ∙ e)
 
     module _ (m : List ℕ) (t : Table) (m' : List ℕ)
-        (f : Kept t m' × ((load_entries clock count 0 (drop next s) ≡ some (view t m')) × ((length m' ≡ length m) × ((drop table_bytes m' ≡ drop table_bytes m) × Lays m (view t m') t m')))) where
-      loads : load clock s ≡ some (record { own = own; entries = view t m' })
+        (f : Kept t m' × ((load_entries clock x.count 0 (drop x.next s) ≡ some (view t m')) × ((length m' ≡ length m) × ((drop table_bytes m' ≡ drop table_bytes m) × Lays m (view t m') t m')))) where
+      loads : load clock s ≡ some (record { own = x.own; entries = view t m' })
       loads =
-          let q : or_else (load_entries clock count 0 (drop next s)) none (holds_own own) ≡ holds_own own (view t m') = rw f.1.0 in
-          h.loads clock ∙ q ∙ some-chosen (is_some (look own (view t m'))) (record { own = own; entries = view t m' }) (ap is_some (sym q) ∙ sym (j clock) ∙ e)
+          let q : or_else (load_entries clock x.count 0 (drop x.next s)) none (holds_own x.own) ≡ holds_own x.own (view t m') = rw f.1.0 in
+          h.loads clock ∙ q ∙ some-chosen (is_some (look x.own (view t m'))) (record { own = x.own; entries = view t m' }) (ap is_some (sym q) ∙ sym (j clock) ∙ e)
 
-      pub loaded : LoadedFrom clock s m (record { ok = true; own = own; table = t }) m'
-      loaded = record { judged = sym (ap is_some loads); refused = λ q. no_way true refl q; kept = λ q. f.0; loads = λ q. loads; lays = λ q. f.1.1.1.1; size = f.1.1.0; beyond = f.1.1.1.0 }
+      pub loaded : Holds clock s m (record { own = x.own; table = t }) m'
+      loaded = record { kept = f.0; loads = loads; lays = f.1.1.1.1; size = f.1.1.0; beyond = f.1.1.1.0 }

@@ -11,7 +11,7 @@ use Rattle.base.proofs.Written.{written_none, written-length, written_more, writ
 use Rattle.wire.specs.Groups.{groups}
 use Rattle.wire.proofs.Good.{good-fits}
 use Rattle.wire.proofs.Varints.{groups-length}
-use Rattle.model.specs.Figures.{data_limit, table_bytes, most_age, snapshot_bytes}
+use Rattle.model.specs.Figures.{most_nodes, data_limit, table_bytes, most_age, snapshot_bytes}
 use Rattle.model.specs.Sequence.{circle}
 use Rattle.model.specs.Table.{Entry}
 use Rattle.model.specs.State.{no_entry}
@@ -73,6 +73,31 @@ module _ (t : Table) (m : List ℕ) (i : ℕ) (k : Kept t m) (p : i < t.count) w
     pub row-size : (meta_at t i).len ≡ length bytes
     row-size = sym (ap length e ∙ (data_length t m i k p).0)
 
+-- ---- the numbers before the entries: the room d' holds them, and the entries go to place at
+
+pub record Headed (own : ℕ) (es : List Entry) (d d' : List ℕ) (at : ℕ) : Type 0 where
+  pub front : d' ≡ written d 0 (saved_head own (length es))
+  pub place : at ≡ length (saved_head own (length es))
+  pub low : at ≤ head_bytes
+  pub room : snapshot_bytes ≤ length d'
+
+module _ (own n : ℕ) (d d1 d2 d3 : List ℕ) (a1 a2 a3 : ℕ)
+    (h1 : (d1 ≡ written d 0 (groups 1)) × (a1 ≡ 0 + length (groups 1)))
+    (h2 : (d2 ≡ written d1 a1 (groups own)) × (a2 ≡ a1 + length (groups own)))
+    (h3 : (d3 ≡ written d2 a2 (groups n)) × (a3 ≡ a2 + length (groups n))) where
+  head_end : a3 ≡ length (saved_head own n)
+  head_end = simp length-append (omega (arith, h1.1, h2.1, h3.1))
+
+  pub headed : (es : List Entry) → n ≡ length es → length es ≤ most_nodes → own < circle → snapshot_bytes ≤ length d → length d3 ≡ length d → Headed own es d d3 a3
+  headed es e f o r l =
+      let low : length (saved_head own n) ≤ head_bytes = head_short own n o (omega arith) in
+      record {
+        front = rw (← e) (written_three d 0 (groups 1) (groups own) (groups n) d1 d2 d3 a1 a2 h1.0 h1.1 h2.0 h2.1 h3.0 (omega (arith, head_end, h3.1)));
+        place = rw (← e) head_end;
+        low = omega (arith, head_end);
+        room = omega arith;
+      }
+
 -- ---- the snapshot, entry by entry
 
 -- the first i entries of the table are written to d from place at on, and d' and a are the room then and the place behind them
@@ -82,14 +107,14 @@ pub record Through (clock : ℕ) (t : List Entry) (d : List ℕ) (at : ℕ) (d' 
   pub place : a ≡ at + length (saved_entries clock (take i t))
   pub size : length d' ≡ length d
 
-module _ (own clock : ℕ) (t : List Entry) (fits : TableFits own clock t) (d : List ℕ) (at : ℕ) where
-  pub through_start : Through clock t d at d at 0
-  through_start = record { part = omega arith; front = sym (written_none d at); place = omega arith; size = refl }
+pub through_start : (clock : ℕ) (t : List Entry) (d : List ℕ) (at : ℕ) → Through clock t d at d at 0
+through_start clock t d at = record { part = omega arith; front = sym (written_none d at); place = omega arith; size = refl }
 
-  module _ (low : at ≤ head_bytes) (room : snapshot_bytes ≤ length d) (d' : List ℕ) (a i : ℕ) (h : Through clock t d at d' a i) where
+module _ (own clock : ℕ) (t : List Entry) (fits : TableFits own clock t) (d₀ d : List ℕ) (at : ℕ) (g : Headed own t d₀ d at) where
+  module _ (d' : List ℕ) (a i : ℕ) (h : Through clock t d at d' a i) where
     -- room for one more, which goes in behind
     pub through_room : i < length t → a + entry_bytes ≤ length d'
-    through_room p = omega (arith, h.place, h.size, fits.nodes, save-short clock clock t i fits.entries h.part)
+    through_room p = omega (arith, h.place, h.size, fits.nodes, g.low, g.room, save-short clock clock t i fits.entries h.part)
 
     module _ (d'' : List ℕ) (b : ℕ) (p : i < length t) (e : d'' ≡ written d' a (save_entry clock (get_or t i no_entry))) (q : b ≡ a + length (save_entry clock (get_or t i no_entry))) where
       short : a + length (save_entry clock (get_or t i no_entry)) ≤ length d'
@@ -106,27 +131,17 @@ module _ (own clock : ℕ) (t : List Entry) (fits : TableFits own clock t) (d : 
             size = ap length e ∙ written-length d' (save_entry clock (get_or t i no_entry)) a short ∙ h.size;
           }
 
--- the numbers before the entries
-module _ (own n : ℕ) (d d1 d2 d3 : List ℕ) (a1 a2 a3 : ℕ)
-    (e1 : d1 ≡ written d 0 (groups 1)) (q1 : a1 ≡ 0 + length (groups 1))
-    (e2 : d2 ≡ written d1 a1 (groups own)) (q2 : a2 ≡ a1 + length (groups own))
-    (e3 : d3 ≡ written d2 a2 (groups n)) (q3 : a3 ≡ a2 + length (groups n)) where
-  pub head_end : a3 ≡ length (saved_head own n)
-  head_end = simp length-append (omega arith)
-
-  pub head_put : a3 ≤ length d → d3 ≡ written d 0 (saved_head own n)
-  head_put h = written_three d 0 (groups 1) (groups own) (groups n) d1 d2 d3 a1 a2 e1 q1 e2 q2 e3 (omega arith)
-
--- all of it
-pub all_saved : (own clock : ℕ) (t : List Entry) (d d3 d4 : List ℕ) (at a i : ℕ) → TableFits own clock t → own < circle → snapshot_bytes ≤ length d
-    → d3 ≡ written d 0 (saved_head own (length t)) → at ≡ length (saved_head own (length t)) → Through clock t d3 at d4 a i → length t ≤ i → SavedTo (saved own clock t) d d4 a
-all_saved own clock t d d3 d4 at a i fits o room e q h p =
-    let w : take i t ≡ t = take_all i t p in
-    let front : d4 ≡ written d3 at (saved_entries clock t) = rw w at h.front in
-    let place : a ≡ at + length (saved_entries clock t) = rw w at h.place in
-    let short : length (saved_entries clock (take i t)) ≤ entry_bytes * i = save-short clock clock t i fits.entries h.part in
-    let l = length-append (saved_head own (length t)) (saved_entries clock t) in
-    record {
-      front = rw (saved-is own clock t) (written_more d 0 (saved_head own (length t)) (saved_entries clock t) d3 d4 at e (omega arith) front (omega (arith, rw w at short, h.part, fits.nodes, head_short own (length t) o fits.nodes)));
-      size = rw (saved-is own clock t) (omega arith);
-    }
+    -- all of it
+    pub all_saved : own < circle → snapshot_bytes ≤ length d₀ → length t ≤ i → SavedTo (saved own clock t) d₀ d' a
+    all_saved o room p =
+        let w : take i t ≡ t = take_all i t p in
+        let front : d' ≡ written d at (saved_entries clock t) = rw w at h.front in
+        let place : a ≡ at + length (saved_entries clock t) = rw w at h.place in
+        let short : length (saved_entries clock (take i t)) ≤ entry_bytes * i = save-short clock clock t i fits.entries h.part in
+        let l = length-append (saved_head own (length t)) (saved_entries clock t) in
+        record {
+          front =
+              rw (saved-is own clock t)
+              (written_more d₀ 0 (saved_head own (length t)) (saved_entries clock t) d d' at g.front (omega (arith, g.place)) front (omega (arith, g.place, rw w at short, h.part, fits.nodes, head_short own (length t) o fits.nodes)));
+          size = rw (saved-is own clock t) (omega (arith, g.place));
+        }

@@ -7,14 +7,13 @@ ghost use Rattle.model.specs.Snapshot.{load_entries, holds_own};
 ghost use Rattle.table.specs.View.{view, Kept, Lays};
 ghost use Rattle.snapshot.specs.Answers.{LoadedFrom};
 
-use crate::read::{EntryRead, HeadRead, entry_at, head_of};
+use crate::read::{Cursor, head_of};
 use sha256::hash16;
-use table::Table;
+use table::{Table, Version};
 
-// What was loaded, if `ok` is set: our identifier and the table.
+// What was loaded: our identifier and the table.
 #[derive(Clone, Copy)]
 pub struct Loaded {
-    pub ok: bool,
     pub own: u32,
     pub table: Table,
 }
@@ -24,33 +23,15 @@ fn is_whole(s: &[u8], at: usize, count: usize, own: u32) -> bool
     requires { (at ≤ length s.now) × (count ≤ most_nodes) }
     ensures { (clock : ℕ) → result ≡ is_some (or_else (load_entries clock count 0 (drop at s.now)) none (holds_own own)) }
 {
-    let mut place = at;
-    let mut low: u64 = 0;
+    let mut cursor = Cursor { place: at, low: 0 };
     let mut held = false;
-    let mut k = 0;
-    while k < count {
-        let e = entry_at(s, place, low);
-        let EntryRead::Whole {
-            node,
-            seq: _,
-            age: _,
-            start,
-            size,
-        } = e
-        else {
+    for _k in 0..count {
+        let Some(entry) = cursor.next_entry(s) else {
             return false;
         };
-        if node == own {
-            held = true;
-        }
-        low = node as u64 + 1;
-        place = start + size;
-        k += 1;
+        held |= entry.node == own;
     }
-    if place < s.len() {
-        return false;
-    }
-    held
+    held && cursor.place == s.len()
 }
 
 // The entries into table and table memory.
@@ -59,54 +40,34 @@ fn fill(s: &[u8], at: usize, count: usize, mem: &mut [u8], clock: u64) -> Table
     ensures { Kept result mem.new × ((load_entries clock count 0 (drop at s.now) ≡ some (view result mem.new)) × ((length mem.new ≡ length mem.old) × ((drop table_bytes mem.new ≡ drop table_bytes mem.old) × Lays mem.old (view result mem.new) result mem.new))) }
 {
     let mut t = table::empty();
-    let mut place = at;
-    let mut low: u64 = 0;
-    let mut k = 0;
-    while k < count {
-        let e = entry_at(s, place, low);
-        let EntryRead::Whole {
-            node,
-            seq,
-            age,
-            start,
-            size,
-        } = e
-        else {
+    let mut cursor = Cursor { place: at, low: 0 };
+    for k in 0..count {
+        let Some(entry) = cursor.next_entry(s) else {
             return t;
         };
-        let end = start + size;
-        let bytes = &s[start..end];
-        t = table::insert(t, mem, k, node, seq, age, clock, hash16(bytes), bytes);
-        low = node as u64 + 1;
-        place = end;
-        k += 1;
+        let bytes = &s[entry.start..cursor.place];
+        let v = Version {
+            id: entry.node,
+            seq: entry.seq,
+            age: entry.age,
+            since: clock,
+        };
+        t = table::insert(t, mem, k, v, hash16(bytes), bytes);
     }
     t
 }
 
-// The snapshot in s, or a refusal that leaves the table memory as it is.
-pub fn load(s: &[u8], mem: &mut [u8], clock: u64) -> Loaded
+// The snapshot in s, or none, with the table memory as it was.
+pub fn load(s: &[u8], mem: &mut [u8], clock: u64) -> Option<Loaded>
     requires { table_bytes ≤ length mem.old }
     ensures { LoadedFrom clock s.now mem.old result mem.new }
 {
-    let head = head_of(s);
-    let HeadRead::Head { own, count, next } = head else {
-        return Loaded {
-            ok: false,
-            own: 0,
-            table: table::empty(),
-        };
-    };
-    if !is_whole(s, next, count, own) {
-        return Loaded {
-            ok: false,
-            own: 0,
-            table: table::empty(),
-        };
+    let head = head_of(s)?;
+    if !is_whole(s, head.next, head.count, head.own) {
+        return None;
     }
-    Loaded {
-        ok: true,
-        own,
-        table: fill(s, next, count, mem, clock),
-    }
+    Some(Loaded {
+        own: head.own,
+        table: fill(s, head.next, head.count, mem, clock),
+    })
 }

@@ -16,10 +16,10 @@ fn save_entry(e: Entry, bytes: &[u8], clock: u64, room: &mut [u8], at: usize) ->
     requires { EntryFits clock (entry_with e bytes.now) × ((e.len ≡ length bytes.now) × ((clock ≤ last_reading) × (at + 1041 ≤ length room.old))) }
     ensures { (room.new ≡ written room.old at (save_entry clock (entry_with e bytes.now))) × (result ≡ at + length (save_entry clock (entry_with e bytes.now))) }
 {
-    let a = put_groups(room, at, e.id as u64);
-    let b = put_groups(room, a, e.seq as u64);
-    let c = put_groups(room, b, capped_age(e, clock) as u64);
-    let d = put_groups(room, c, e.len as u64);
+    let a = put_groups(room, at, u64::from(e.id));
+    let b = put_groups(room, a, u64::from(e.seq));
+    let c = put_groups(room, b, u64::from(capped_age(e, clock)));
+    let d = put_groups(room, c, u64::from(e.len));
     store(room, d, bytes);
     d + bytes.len()
 }
@@ -29,15 +29,11 @@ pub fn save(t: Table, mem: &[u8], own: u32, clock: u64, room: &mut [u8]) -> usiz
     requires { Kept t mem.now × (TableFits own clock (view t mem.now) × ((clock ≤ last_reading) × (snapshot_bytes ≤ length room.old))) }
     ensures { SavedTo (saved own clock (view t mem.now)) room.old room.new result }
 {
-    let count = t.count;
     let a = put_groups(room, 0, 1);
-    let b = put_groups(room, a, own as u64);
-    let mut at = put_groups(room, b, count as u64);
-    let mut i = 0;
-    while i < count {
-        let e = t.entries[i];
-        at = save_entry(e, bytes_of(e, mem), clock, room, at);
-        i += 1;
+    let b = put_groups(room, a, u64::from(own));
+    let mut at = put_groups(room, b, t.count as u64);
+    for e in &t.entries[..t.count] {
+        at = save_entry(*e, bytes_of(*e, mem), clock, room, at);
     }
     at
 }

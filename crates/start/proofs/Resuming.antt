@@ -1,20 +1,18 @@
 -- Resuming: what was loaded, published once more without the Peer and Keep-Alive TLVs, and the digest worked out last. Assumes nothing.
 use mathlib.Core.Path.{◌≡◌, refl, sym, ap, ◌∙◌, subst}
-use mathlib.Core.Bool.{true, false}
+use mathlib.Core.Bool.{true}
 use mathlib.Core.List.{List, ◌++◌}
-use mathlib.Core.Option.{Option, some}
 use Prim.Native.Nat.{ℕ, ◌≤◌}
 use lib.ListN.{length}
 use Rattle.base.specs.Lists.{is_some}
 use Rattle.base.specs.Memory.{cut}
-use Rattle.base.proofs.Tests.{no_way}
 use Rattle.wire.specs.Order.{good}
 use Rattle.model.specs.Figures.{data_limit, last_reading}
 use Rattle.model.specs.Sequence.{advance}
 use Rattle.model.specs.Table.{Entry, look}
 use Rattle.model.specs.State.{State as ModelState, own_entry, own_seq, own_data, publish_as}
 use Rattle.model.specs.Begin.{started}
-use Rattle.model.specs.Snapshot.{Snapshot, load, without_links, republished, resumed}
+use Rattle.model.specs.Snapshot.{Snapshot, without_links, republished, resumed}
 use Rattle.model.specs.Invariant.{TableFits, SnapshotFits}
 use Rattle.model.proofs.Snapshots.{load_fits}
 use Rattle.model.proofs.KeptCalls.{before-good, resumed-valid}
@@ -23,11 +21,11 @@ use Rattle.table.specs.View.{view, Kept, Lays, Wrote}
 use Rattle.table.proofs.Laying.{lays_then}
 use Rattle.reach.specs.Marks.{Readable}
 use Rattle.snapshot.specs.declared.load.Loaded.{Loaded}
-use Rattle.snapshot.specs.Answers.{LoadedFrom}
+use Rattle.snapshot.specs.Answers.{Holds}
 use Rattle.node.specs.declared.State.{State}
 use Rattle.node.specs.View.{state_of, Rep, Held, Moved, Published}
 use Rattle.node.proofs.Parts.{state-held, state-table}
-use Rattle.start.specs.Started.{undigested, digested, unlinked, ResumedFrom}
+use Rattle.start.specs.Started.{undigested, digested, unlinked, Resumes}
 use Rattle.start.proofs.Starting.{then_digested, table_readable}
 
 -- ---- our data published once more
@@ -78,77 +76,54 @@ module _ (clock : ℕ) (rs : List ℕ) (b : Snapshot) (f : SnapshotFits clock b)
 
 -- ---- and the code's
 
--- what loads is one snapshot
-one-loads : (o : Option Snapshot) (a b : Snapshot) → o ≡ some a → o ≡ some b → a ≡ b
-one-loads o a b p q = cc
+module _ (clock : ℕ) (bytes rs m : List ℕ) (x : Loaded) (m₁ : List ℕ) (g : Holds clock bytes m x m₁) where
+  abbrev taken : Snapshot
+  taken = record { own = x.own; entries = view x.table m₁ }
 
-module _ (clock : ℕ) (bytes rs m : List ℕ) (s₀ : State) (x : Loaded) (m₁ : List ℕ) (g : LoadedFrom clock bytes m x m₁) where
-  -- a snapshot that does not load changes nothing
-  pub resume-refused : x.ok ≡ false → ResumedFrom clock bytes rs s₀ m (record { ok = false; state = s₀ }) m₁
-  resume-refused n =
-      record {
-        judged = sym n ∙ g.judged;
-        state = λ z. refl;
-        memory = λ z. g.refused n;
-        resumes = λ b e. no_way (is_some (load clock bytes)) (ap is_some e) (sym g.judged ∙ n);
-        lays = λ b e. no_way (is_some (load clock bytes)) (ap is_some e) (sym g.judged ∙ n);
-      }
+  -- so every number is in range and all data good
+  taken-fits : SnapshotFits clock taken
+  taken-fits = load_fits clock bytes taken g.loads
 
-  module _ (t : x.ok ≡ true) where
-    abbrev taken : Snapshot
-    taken = record { own = x.own; entries = view x.table m₁ }
+  module _ (s : State) (w : ((k : List ℕ) → Kept x.table k → Rep s k × (state_of s k ≡ undigested x.own clock rs (view x.table k))) × (s.table ≡ x.table)) where
+    loaded_is : state_of s m₁ ≡ before clock rs taken taken-fits
+    loaded_is = (w.0 m₁ g.kept).1
 
-    -- so every number is in range and all data good
-    taken-fits : SnapshotFits clock taken
-    taken-fits = load_fits clock bytes taken (g.loads t)
+    -- what publishing once more asks
+    pub resume_ready : Rep s m₁ × (Held s m₁ × (good data_limit (own_data (state_of s m₁)) ≡ true))
+    resume_ready = (
+      (w.0 m₁ g.kept).0,
+      (
+        state-held s m₁ (subst (λ (z : ModelState). is_some (look z.own z.table) ≡ true) (sym loaded_is) (before-held clock rs taken taken-fits)),
+        subst (λ (z : ModelState). good data_limit (own_data z) ≡ true) (sym loaded_is) (before-fine clock rs taken taken-fits),
+      ),
+    )
 
-    module _ (s : State) (w : ((k : List ℕ) → Kept x.table k → Rep s k × (state_of s k ≡ undigested x.own clock rs (view x.table k))) × (s.table ≡ x.table)) where
-      loaded_is : state_of s m₁ ≡ before clock rs taken taken-fits
-      loaded_is = (w.0 m₁ (g.kept t)).1
+    module _ (l : clock ≤ last_reading) (four : length rs ≡ 4) (r : State) (m₂ : List ℕ) (u : Published (unlinked clock (state_of s m₁)) s m₁ r m₂) where
+      again-is : state_of r m₂ ≡ after clock rs taken taken-fits
+      again-is = u.moved.is ∙ ap (unlinked clock) loaded_is ∙ then_after clock rs taken taken-fits
 
-      -- what publishing once more asks
-      pub resume_ready : Rep s m₁ × (Held s m₁ × (good data_limit (own_data (state_of s m₁)) ≡ true))
-      resume_ready = (
-        (w.0 m₁ (g.kept t)).0,
-        (
-          state-held s m₁ (subst (λ (z : ModelState). is_some (look z.own z.table) ≡ true) (sym loaded_is) (before-held clock rs taken taken-fits)),
-          subst (λ (z : ModelState). good data_limit (own_data z) ≡ true) (sym loaded_is) (before-fine clock rs taken taken-fits),
-        ),
-      )
+      -- what the digest asks
+      pub resume-readable : Rep r m₂ × (Readable clock r.table m₂ × Held r m₂)
+      resume-readable = (u.moved.rep, table_readable clock r m₂ u.moved.rep (after clock rs taken taken-fits) again-is (after-fits clock rs taken taken-fits l four) l)
 
-      module _ (l : clock ≤ last_reading) (four : length rs ≡ 4) (r : State) (m₂ : List ℕ) (u : Published (unlinked clock (state_of s m₁)) s m₁ r m₂) where
-        again-is : state_of r m₂ ≡ after clock rs taken taken-fits
-        again-is = u.moved.is ∙ ap (unlinked clock) loaded_is ∙ then_after clock rs taken taken-fits
+      resumed-from : (q : State) → Moved (digested clock (state_of r m₂)) m₂ q m₂ → Moved (resumed clock rs taken) m q m₂
+      resumed-from q d =
+          record {
+            rep = d.rep;
+            is = d.is ∙ ap (digested clock) again-is ∙ then_resumed clock rs taken taken-fits;
+            size = u.moved.size ∙ g.size;
+            beyond = u.moved.beyond ∙ g.beyond;
+          }
 
-        -- what the digest asks
-        pub resume-readable : Rep r m₂ × (Readable clock r.table m₂ × Held r m₂)
-        resume-readable = (u.moved.rep, table_readable clock r m₂ u.moved.rep (after clock rs taken taken-fits) again-is (after-fits clock rs taken taken-fits l four) l)
+      -- the snapshot's entries are laid, then those of the table that is left
+      resumed_laid : (q : State) → Moved (digested clock (state_of r m₂)) m₂ q m₂ → q.table ≡ r.table → Lays m (taken.entries ++ (resumed clock rs taken).table) q.table m₂
+      resumed_laid q d e =
+          let b : Wrote x.table m₁ (view r.table m₂) r.table m₂ = subst (λ (z : Table). Wrote z m₁ (view r.table m₂) r.table m₂) w.1 u.wrote in
+          let v : view r.table m₂ ≡ (resumed clock rs taken).table =
+          ap (λ (z : Table). view z m₂) (sym e) ∙ sym (state-table q m₂) ∙ ap (λ (z : ModelState). z.table) (resumed-from q d).is in
+          subst (λ (z : Table). Lays m (taken.entries ++ (resumed clock rs taken).table) z m₂) (sym e)
+          (subst (λ (es : List Entry). Lays m (taken.entries ++ es) r.table m₂) v
+          (lays_then x.table r.table m (view x.table m₁) m₁ (view r.table m₂) m₂ g.lays b))
 
-        resumed-from : (q : State) → Moved (digested clock (state_of r m₂)) m₂ q m₂ → Moved (resumed clock rs taken) m q m₂
-        resumed-from q d =
-            record {
-              rep = d.rep;
-              is = d.is ∙ ap (digested clock) again-is ∙ then_resumed clock rs taken taken-fits;
-              size = u.moved.size ∙ g.size;
-              beyond = u.moved.beyond ∙ g.beyond;
-            }
-
-        -- the snapshot's entries are laid, then those of the table that is left
-        resumed_laid : (q : State) → Moved (digested clock (state_of r m₂)) m₂ q m₂ → q.table ≡ r.table → Lays m (taken.entries ++ (resumed clock rs taken).table) q.table m₂
-        resumed_laid q d e =
-            let b : Wrote x.table m₁ (view r.table m₂) r.table m₂ = subst (λ (z : Table). Wrote z m₁ (view r.table m₂) r.table m₂) w.1 u.wrote in
-            let v : view r.table m₂ ≡ (resumed clock rs taken).table =
-            ap (λ (z : Table). view z m₂) (sym e) ∙ sym (state-table q m₂) ∙ ap (λ (z : ModelState). z.table) (resumed-from q d).is in
-            subst (λ (z : Table). Lays m (taken.entries ++ (resumed clock rs taken).table) z m₂) (sym e)
-            (subst (λ (es : List Entry). Lays m (taken.entries ++ es) r.table m₂) v
-            (lays_then x.table r.table m (view x.table m₁) m₁ (view r.table m₂) m₂ (g.lays t) b))
-
-        pub resume_done : (q : State) → Moved (digested clock (state_of r m₂)) m₂ q m₂ × (q.table ≡ r.table) → ResumedFrom clock bytes rs s₀ m (record { ok = true; state = q }) m₂
-        resume_done q d =
-            record {
-              judged = sym t ∙ g.judged;
-              state = λ z. no_way true refl z;
-              memory = λ z. no_way true refl z;
-              resumes = λ b e. subst (λ (z : Snapshot). Moved (resumed clock rs z) m q m₂) (one-loads (load clock bytes) taken b (g.loads t) e) (resumed-from q d.0);
-              lays = λ b e. subst (λ (z : Snapshot). Lays m (z.entries ++ (resumed clock rs z).table) q.table m₂) (one-loads (load clock bytes) taken b (g.loads t) e) (resumed_laid q d.0 d.1);
-            }
+      pub resume_done : (q : State) → Moved (digested clock (state_of r m₂)) m₂ q m₂ × (q.table ≡ r.table) → Resumes clock bytes rs m q m₂
+      resume_done q d = record { snapshot = taken; loads = g.loads; resumes = resumed-from q d.0; lays = resumed_laid q d.0 d.1 }

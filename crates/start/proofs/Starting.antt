@@ -1,9 +1,13 @@
 -- The state as it starts: its parts, the table it may mark, and the digest worked out last. Assumes nothing.
 use mathlib.Core.Path.{◌≡◌, refl, sym, ap, ◌∙◌, subst}
 use mathlib.Core.List.{List, [], ◌∷◌}
-use Prim.Native.Nat.{ℕ, ◌≤◌, ◌<◌, zero-le}
+use Prim.Native.Nat.{ℕ, zero, suc, ◌+◌, ◌≤◌, ◌<◌, zero-le}
+use native.Mathlib.Omega.{arith}
+use denote.Param.Members.{Mut, Called}
+use Rattle.std.specs.Array.{MapsFrom}
 use lib.ListN.{length, get_or, replicate}
 use Rattle.base.proofs.Places.{four_of}
+use Rattle.base.proofs.Tests.{by_order}
 use Rattle.model.specs.Figures.{most_peers, last_reading}
 use Rattle.model.specs.Sequence.{circle}
 use Rattle.model.specs.Table.{Entry, entry_of, anew}
@@ -21,7 +25,7 @@ use Rattle.node.specs.declared.State.{State}
 use Rattle.node.specs.declared.Endpoint.{Endpoint}
 use Rattle.node.specs.declared.peers.Peer.{Peer}
 use Rattle.node.specs.declared.peers.Peers.{Peers}
-use Rattle.node.specs.View.{endpoints_of, peers_of, state_of, PeersRep, Rep, Held, Moved}
+use Rattle.node.specs.View.{endpoint_of, endpoints_of, peers_of, state_of, PeersRep, Rep, Held, Moved}
 use Rattle.node.proofs.Moves.{moved_to}
 use Rattle.start.specs.Started.{undigested, digested}
 
@@ -31,11 +35,28 @@ pub none-known : (l : List Peer) → length l ≡ most_peers → PeersRep (recor
 unfolding peers_of
 none-known l e = (record { few = zero-le; list = e }, refl)
 
-pub fresh-four : (clock : ℕ) (rs : List ℕ) (a b c d : ModelEndpoint) → length rs ≡ 4 → a ≡ fresh_endpoint clock (get_or rs 0 0) → b ≡ fresh_endpoint clock (get_or rs 1 0)
+-- arrays of which a closure that stays as it is, and answers as P says, made one of the other
+module _ {F A B : Type 0} (g : Mut F (A × Unit {0}) B) (f : F) (P : A → B → Type 0) (xs : List A) (ys : List B) (c : (x : A) (y : B) (q : F) → Called g f (x, tt) y q → (q ≡ f) × P x y) where
+  pub mapped_at : (i n : ℕ) → MapsFrom g f xs ys i n → (k : ℕ) (d : A) (e : B) → i ≤ k → k < i + n → P (get_or xs k d) (get_or ys k e)
+  mapped_at i zero m k d e p q = absurd (omega arith)
+  mapped_at i (suc n) m k d e p q =
+      let w = c m.1 m.2 m.0 m.5 in
+      by_order i k
+      (λ l. mapped_at (i + 1) n (subst (λ (j : F). MapsFrom g j xs ys (i + 1) n) w.0 m.6) k d e (omega arith) (omega arith))
+      (λ s. let u : get_or xs i d ≡ m.1 = m.3.1 d in let v : get_or ys i e ≡ m.2 = m.4.1 e in rw (← s, u, v) w.1)
+      (λ l. absurd (omega arith))
+
+fresh-four : (clock : ℕ) (rs : List ℕ) (a b c d : ModelEndpoint) → length rs ≡ 4 → a ≡ fresh_endpoint clock (get_or rs 0 0) → b ≡ fresh_endpoint clock (get_or rs 1 0)
     → c ≡ fresh_endpoint clock (get_or rs 2 0) → d ≡ fresh_endpoint clock (get_or rs 3 0) → a ∷ b ∷ c ∷ d ∷ [] ≡ fresh_endpoints clock rs
 fresh-four clock rs a b c d h p q r s =
     let k : a ∷ b ∷ c ∷ d ∷ [] ≡ fresh_endpoints clock (get_or rs 0 0 ∷ get_or rs 1 0 ∷ get_or rs 2 0 ∷ get_or rs 3 0 ∷ []) = rw (p, q, r, s) in
     k ∙ ap (fresh_endpoints clock) (sym (four_of rs 0 0 0 0 h))
+
+-- each endpoint of its random number
+pub fresh-each : (clock : ℕ) (rs : List ℕ) (es : List Endpoint) (e : Endpoint) → length rs ≡ 4 → length es ≡ 4
+    → ((k : ℕ) → k < 4 → endpoint_of (get_or es k e) ≡ fresh_endpoint clock (get_or rs k 0)) → endpoints_of es ≡ fresh_endpoints clock rs
+fresh-each clock rs es e h n p =
+    ap endpoints_of (four_of es e e e e n) ∙ fresh-four clock rs _ _ _ _ h (p 0 (omega arith)) (p 1 (omega arith)) (p 2 (omega arith)) (p 3 (omega arith))
 
 -- ---- the state
 

@@ -1,7 +1,6 @@
 -- What beginning and resuming answer, step by step. Assumes nothing.
-use Rattle.std.specs.Prelude.{◌≡◌, false, List, [], ◌++◌, ℕ, replicate}
-use Rattle.std.proofs.Math.Option.{some}
-use Rattle.base.specs.Lists.{is_some}
+use Rattle.std.specs.Prelude.{◌≡◌, List, [], ◌++◌, ℕ, replicate, Option, Some, None}
+use Rattle.std.proofs.Math.Option.{none, some}
 use Rattle.model.specs.Table.{Entry}
 use Rattle.model.specs.Digest.{network_digest}
 use Rattle.model.specs.State.{State as ModelState, own_data, publish}
@@ -10,7 +9,6 @@ use Rattle.model.specs.Snapshot.{Snapshot, load, without_links, resumed}
 use Rattle.table.specs.View.{Lays}
 use Rattle.node.specs.View.{Moved}
 use Rattle.node.specs.declared.State.{State}
-use Rattle.start.specs.declared.resume.Resumed.{Resumed}
 
 -- the model's started state, but for the digest
 unfoldable pub undigested : ℕ → ℕ → List ℕ → List Entry → ModelState
@@ -26,11 +24,15 @@ digested clock s =
 unfoldable pub unlinked : ℕ → ModelState → ModelState
 unlinked clock s = publish clock (without_links (own_data s)) s
 
--- the snapshot was judged whole: only if it loads does anything change, and then the state is that of the model
-pub record ResumedFrom (clock : ℕ) (bytes randoms : List ℕ) (s : State) (m : List ℕ) (r : Resumed) (m' : List ℕ) : Type 0 where
-  pub judged : r.ok ≡ is_some (load clock bytes)
-  pub state : r.ok ≡ false → r.state ≡ s
-  pub memory : r.ok ≡ false → m' ≡ m
-  pub resumes : (b : Snapshot) → load clock bytes ≡ some b → Moved (resumed clock randoms b) m r.state m'
+-- the state is that of the model, resumed from the snapshot that loads
+pub record Resumes (clock : ℕ) (bytes randoms m : List ℕ) (r : State) (m' : List ℕ) : Type 0 where
+  pub snapshot : Snapshot
+  pub loads : load clock bytes ≡ some snapshot
+  pub resumes : Moved (resumed clock randoms snapshot) m r m'
   -- the entries of the snapshot are laid in the memory, then the table that they become
-  pub lays : (b : Snapshot) → load clock bytes ≡ some b → Lays m (b.entries ++ (resumed clock randoms b).table) r.state.table m'
+  pub lays : Lays m (snapshot.entries ++ (resumed clock randoms snapshot).table) r.table m'
+
+-- the snapshot was judged whole: only if it loads does anything change
+abbrev pub ResumedFrom : ℕ → List ℕ → List ℕ → List ℕ → Option State → List ℕ → Type 0
+ResumedFrom clock bytes randoms m (Some r) m' = Resumes clock bytes randoms m r m'
+ResumedFrom clock bytes randoms m None m' = (load clock bytes ≡ none) × (m' ≡ m)

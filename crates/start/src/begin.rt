@@ -29,23 +29,18 @@ fn fresh_endpoint(clock: u64, random: u32) -> Endpoint
 }
 
 // All four.
-fn fresh_endpoints(clock: u64, randoms: [u32; MOST_ENDPOINTS]) -> [Endpoint; MOST_ENDPOINTS]
+pub fn fresh_endpoints(clock: u64, randoms: [u32; MOST_ENDPOINTS]) -> [Endpoint; MOST_ENDPOINTS]
     requires { clock ≤ last_reading }
     ensures { (length result ≡ most_endpoints) × (endpoints_of result ≡ fresh_endpoints clock randoms) }
 {
-    [
-        fresh_endpoint(clock, randoms[0]),
-        fresh_endpoint(clock, randoms[1]),
-        fresh_endpoint(clock, randoms[2]),
-        fresh_endpoint(clock, randoms[3]),
-    ]
+    randoms.map(|random| fresh_endpoint(clock, random))
 }
 
 // No peer at all.
-fn no_peers() -> Peers
+pub fn no_peers() -> Peers
     ensures { PeersRep result × (peers_of result ≡ []) }
 {
-    let p = Peer {
+    let none = Peer {
         node: 0,
         theirs: 0,
         ours: 0,
@@ -53,7 +48,7 @@ fn no_peers() -> Peers
     };
     Peers {
         count: 0,
-        list: [p; MOST_PEERS],
+        list: [none; MOST_PEERS],
     }
 }
 
@@ -79,9 +74,7 @@ pub fn with_digest(s: State, mem: &[u8], clock: u64) -> State
 {
     let found = reach(s.table, mem, s.own, clock);
     let digest = found.digest;
-    let mut r = s;
-    r.digest = digest;
-    r
+    State { digest, ..s }
 }
 
 // Our node alone: number 0, no data, age 0.

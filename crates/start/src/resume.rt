@@ -14,13 +14,6 @@ use node::State;
 use node::publish::{own_data, own_seq, publish_cut};
 use snapshot::load::load;
 
-// What resuming answers: whether the snapshot was taken, and the state, else as it was.
-#[derive(Clone, Copy)]
-pub struct Resumed {
-    pub ok: bool,
-    pub state: State,
-}
-
 // Our data published once more, without the Peer and Keep-Alive TLVs.
 fn republish(s: State, mem: &mut [u8], clock: u64) -> State
     requires { Rep s mem.old × (Held s mem.old × (good data_limit (own_data (state_of s mem.old)) ≡ true)) }
@@ -31,28 +24,18 @@ fn republish(s: State, mem: &mut [u8], clock: u64) -> State
     publish_cut(s, mem, clock, seq, links.start, links.size)
 }
 
-// The node of the snapshot in `bytes`, or a refusal that leaves state and table memory as they are.
+// The node of the snapshot in `bytes`, or none, with the table memory as it was.
 pub fn resume(
-    s: State,
     bytes: &[u8],
     mem: &mut [u8],
     clock: u64,
     randoms: [u32; MOST_ENDPOINTS],
-) -> Resumed
+) -> Option<State>
     requires { (table_bytes ≤ length mem.old) × (clock ≤ last_reading) }
-    ensures { ResumedFrom clock bytes.now randoms s mem.old result mem.new }
+    ensures { ResumedFrom clock bytes.now randoms mem.old result mem.new }
 {
-    let loaded = load(bytes, mem, clock);
-    if !loaded.ok {
-        return Resumed {
-            ok: false,
-            state: s,
-        };
-    }
+    let loaded = load(bytes, mem, clock)?;
     let begun = undigested(loaded.own, clock, randoms, loaded.table);
     let published = republish(begun, mem, clock);
-    Resumed {
-        ok: true,
-        state: with_digest(published, mem, clock),
-    }
+    Some(with_digest(published, mem, clock))
 }

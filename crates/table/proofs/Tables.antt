@@ -1,34 +1,39 @@
 -- The entries of the table against the model's table. Assumes nothing.
 use Prim.Native.Nat.{ℕ, zero, suc, ◌+◌, ◌-◌, ◌*◌, ◌≤◌, ◌<◌, zero-le, suc-le-suc}
 use mathlib.Core.Path.{◌≡◌, refl, sym, ap, ◌∙◌, subst}
-use mathlib.Core.Bool.{Bool, true, false, cond}
-use mathlib.Core.List.{List, [], ◌∷◌, ◌++◌, map, append-nil}
+use mathlib.Core.Bool.{Bool, true, false}
+use mathlib.Core.List.{List, [], ◌∷◌, ◌++◌, map, append-nil, append_assoc}
 use mathlib.Core.Option.{none, some}
 use native.Mathlib.Nat.{not-suc-le-zero, le_of_suc-le-suc}
 use native.Mathlib.Omega.{arith}
-use lib.ListN.{length, get_or, take, drop, set, length-take, length-drop, length-append, length-set, length-map, drop_of_length-le, get_or-map, get_or-append}
+use lib.ListN.{length, get_or, take, drop, set, length-take, length-drop, length-append, length-set, length-map, get_or-map, get_or-append}
 use native.Mathlib.Numerals.{add-one}
 use lib.Dec.{eqb}
 use borrow.Author.Tests.{eqb-true, eqb-false}
-use lib.Seq.{take-suc-set, take-set-le, get_or-take, drop-cons, append_snoc, get_or_at, get_or-set_same, take-set-lt, take_at, length-take-le}
-use mathlib.Core.Logic.{inl, inr}
+use lib.Seq.{get_or-take, get_or_at, get_or-set_same, take-set-lt, take_at, length-take-le, take-suc, set_at, take-append-add}
+use mathlib.Core.Logic.{◌⊎◌, inl, inr}
 use Rattle.base.specs.Lists.{keep_by, In, All}
 use Rattle.base.specs.Memory.{part, written, spliced, cut}
 use Rattle.base.specs.Sorted.{find, insert, Above, Ascending}
 use Rattle.base.proofs.Tests.{by_test, by_order}
 use Rattle.base.proofs.Lists.{all_keep_by, in_keep_by}
-use Rattle.base.proofs.Marks.{keep_by_nil}
 use Rattle.base.proofs.Sorted.{above_less, insert_lt, insert_eq, insert_gt, insert-ascending, find_no, find_none, find-some, by_find, one_each, ascending-map, find-map, find-inserted, find-other, all_insert}
-use Rattle.base.proofs.Places.{find_at, insert-over, insert-between, all-at, get_d_any, pigeons}
-use Rattle.base.proofs.Written.{part_length, part-there, spliced-length, cut-length, other-slot, written_outside, same_outside, written-above, written-there, written-length}
+use Rattle.base.proofs.Places.{above_at, find_at, insert-over, insert-between, all-at, pigeons}
+use Rattle.base.proofs.Written.{part_length, part-there, spliced-length, cut-length, other-slot, written_outside, same_outside, written-above, written-there, written-length, written_self}
+use Rattle.std.specs.Prelude.{Result, Ok, Err}
+use Rattle.std.specs.List.{copy_within}
+use Rattle.std.specs.List.Sorted.{IsSearchInRange, IsBinarySearchResult, IsNonDecreasingBy}
+use Rattle.std.specs.Ordering.{nat_cmp, ordering_index}
+use Rattle.std.proofs.lemmas.Cmp.{ranked}
+use Rattle.std.proofs.lemmas.List.Sorted.{IsNonDecreasingBy-from_default}
+use Rattle.std.proofs.lemmas.Bool.Decides.{nat_tests}
 use Rattle.sha256.specs.Sha256.{hash16}
 use Rattle.model.specs.Figures.{most_nodes, data_limit, table_bytes}
 use Rattle.model.specs.Table.{Entry, entry_of, id_of, put, look, stamp, anew}
-use Rattle.table.specs.View.{no_meta, meta_id, live, meta_at, data_of, seen, view, OnlySlot, Free, Apart, FitMeta, Fit, Hashed, Arranged, Kept, meta_of, SlotsStay, Stands, Gap, Finding, Read, Stored, with_entries, with_meta, inserted, Renumbered, SlotUsed, Purged}
+use Rattle.table.specs.View.{no_meta, meta_id, live, meta_at, data_of, seen, view, OnlySlot, Free, Apart, FitMeta, Fit, Hashed, Arranged, Kept, meta_of, SlotsStay, Stands, Gap, Finding, Read, Stored, with_meta, inserted, Renumbered, SlotUsed, Purged, version_of, version_anew, entry_in}
 use Rattle.table.specs.declared.Table.{Table}
-use Rattle.table.specs.declared.Found.{Found}
-use Rattle.table.specs.declared.Found.TheVariants.{At, Missing}
 use Rattle.table.specs.declared.Entry.{Entry as Meta}
+use Rattle.table.specs.declared.Version.{Version}
 
 -- ---- seen in the model
 
@@ -92,17 +97,41 @@ seen-put m m' e (x ∷ l) o a f c =
 
 -- ---- found
 
-module _ (l : List Meta) (i : ℕ) (d : Meta) (x : ℕ) (h : i < length l) where
-  pub id_is : (get_or l i d).id ≡ x → (get_or l i no_meta).id ≡ x
-  id_is e = ap meta_id (get_d_any l i no_meta d h) ∙ e
+pub live-length : (t : Table) → Arranged t → length (live t) ≡ t.count
+live-length t k = simp length-take (omega arith)
 
-  pub id_over : x < (get_or l i d).id → x < (get_or l i no_meta).id
-  id_over p = let q : (get_or l i no_meta).id ≡ (get_or l i d).id = ap meta_id (get_d_any l i no_meta d h) in omega arith
+live_at : (t : Table) (i : ℕ) → i < t.count → get_or (live t) i no_meta ≡ meta_at t i
+live_at t i p = get_or-take t.count t.entries i no_meta p
 
-  pub ids_under : ¬ ((get_or l i d).id ≡ x) → (get_or l i d).id ≤ x → ((k : ℕ) → k < i → (get_or l k no_meta).id < x) → (k : ℕ) → k < i + 1 → (get_or l k no_meta).id < x
-  ids_under n p f k q =
-      let e : (get_or l i no_meta).id ≡ (get_or l i d).id = ap meta_id (get_d_any l i no_meta d h) in
-      by_order k i (λ r. f k r) (λ r. rw r (omega arith)) (λ r. absurd (omega arith))
+-- the identifiers ascend from place to place
+ids-rise : (l : List Meta) (i j : ℕ) → Ascending meta_id l → i < j → j < length l → (get_or l i no_meta).id < (get_or l j no_meta).id
+ids-rise [] i j a p q = absurd (not-suc-le-zero q)
+ids-rise (x ∷ l) i zero a p q = absurd (not-suc-le-zero p)
+ids-rise (x ∷ l) zero (suc j) a p q = above_at meta_id no_meta x.id l j a.0 (le_of_suc-le-suc q)
+ids-rise (x ∷ l) (suc i) (suc j) a p q = ids-rise l i j a.1 (le_of_suc-le-suc p) (le_of_suc-le-suc q)
+
+module _ (t : Table) (k : Arranged t) (id : ℕ) where
+  -- so do the answers of their comparisons with one identifier, as a binary search asks
+  comparisons-rise : IsNonDecreasingBy (λ (e : Meta). ordering_index (nat_cmp e.id id)) (live t)
+  comparisons-rise = IsNonDecreasingBy-from_default (λ (e : Meta). ordering_index (nat_cmp e.id id)) (live t) no_meta
+      (λ i j p q.
+      let r : (get_or (live t) i no_meta).id ≤ (get_or (live t) j no_meta).id =
+      by_order i j (λ l. let s = ids-rise (live t) i j k.ascending l q in omega arith) (λ e. rw e (omega arith)) (λ g. absurd (omega arith)) in
+      grind (arith, nat_tests))
+
+  -- the binary search ends at the node, or where it would stand
+  pub finding : (r : Result ℕ ℕ) → IsSearchInRange r (length (live t)) → IsBinarySearchResult (λ (e : Meta). nat_cmp e.id id) (live t) r → Finding t id r
+  finding (Ok i) b e =
+      let p : i < t.count = rw (live-length t k) at b in
+      record { at = p; named = rw (live_at t i p) at (ranked _ id _ (sym (e no_meta))) }
+  finding (Err i) b e =
+      let p : i ≤ t.count = rw (live-length t k) at b in
+      let parted = e comparisons-rise in
+      record {
+        at = p;
+        below = λ j l. rw (live_at t j (omega arith)) at (ranked _ id _ (sym (parted.0 j no_meta (omega (arith, b)) l)));
+        above = λ l. rw (live_at t i l) at (ranked _ id _ (sym (parted.1 i no_meta (omega arith) (rw (live-length t k) l))));
+      }
 
 -- ---- digests
 
@@ -128,12 +157,6 @@ hashed-put m m' e (x ∷ l) o a f c q h =
     (hashed_meta m m' x (other-slot m m' data_limit e.slot x.slot x.len o f.0.1 (c.0 (omega arith))) h.0, hashed-put m m' e l o a.1 f.1 c.1 q h.1))
 
 -- ---- where an entry goes in
-
-pub live-length : (t : Table) → Arranged t → length (live t) ≡ t.count
-live-length t k = simp length-take (omega arith)
-
-live_at : (t : Table) (i : ℕ) → i < t.count → get_or (live t) i no_meta ≡ meta_at t i
-live_at t i p = get_or-take t.count t.entries i no_meta p
 
 -- what is known of a node that is held
 pub meta_found : (t : Table) → Arranged t → (x : Meta) → In x (live t) → meta_of t x.id ≡ some x
@@ -315,53 +338,50 @@ meta_read t i k p =
 
 -- ---- what the functions leave
 
-module _ (t r : Table) (m m' d : List ℕ) (i id seq age since len slot at : ℕ) (hash : List ℕ) (k : Kept t m) (l : length d ≤ data_limit) (n : len ≡ length d) (h : hash ≡ hash16 d) (a : at ≡ slot * data_limit) (w : m' ≡ written m at d) where
-  pub replaced : (old : Meta) → Read t i old → slot ≡ old.slot → Stands t id i
-      → r ≡ with_meta t i (record { id = id; seq = seq; age = age; len = len; slot = slot; since = since; hash = hash })
-      → Stored (entry_of id seq d (stamp age since)) t m i r m'
-  replaced old o q s e =
-      rw (w, a, e) (stored-over t m (record { id = id; seq = seq; age = age; len = len; slot = slot; since = since; hash = hash }) d i k s (q ∙ ap (λ (x : Meta). x.slot) o.same) n l h)
+module _ (t r : Table) (m m' d : List ℕ) (i : ℕ) (v : Version) (e : Meta) (slot at : ℕ) (hash : List ℕ) (k : Kept t m) (l : length d ≤ data_limit) (h : hash ≡ hash16 d)
+    (q : e ≡ entry_in v slot (length d) hash) (a : at ≡ e.slot * data_limit) (w : m' ≡ written m at d) where
+  pub replaced : (old : Meta) → Read t i old → slot ≡ old.slot → Stands t v.id i → r ≡ with_meta t i e → Stored (version_of v d) t m i r m'
+  replaced old o p s x =
+      rw (w, a, x, q) (stored-over t m (entry_in v slot (length d) hash) d i k s (p ∙ ap (λ (x : Meta). x.slot) o.same) refl l h)
 
-  pub added : t.count < 32 → Gap t id i → slot < 32 → Free slot (live t)
-      → r ≡ inserted t i (record { id = id; seq = seq; age = age; len = len; slot = slot; since = since; hash = hash })
-      → Stored (entry_of id seq d (stamp age since)) t m i r m'
-  added p g s f e = rw (w, a, e) (stored_new t m (record { id = id; seq = seq; age = age; len = len; slot = slot; since = since; hash = hash }) d i k p g s f n l h)
+  pub added : t.count < 32 → Gap t v.id i → slot < 32 → Free slot (live t) → r ≡ inserted t i e → Stored (version_of v d) t m i r m'
+  added p g s f x = rw (w, a, x, q) (stored_new t m (entry_in v slot (length d) hash) d i k p g s f refl l h)
 
 -- data changed in place, and the digest taken from there
-pub edited : (t r : Table) (m m' : List ℕ) (i id seq since len at : ℕ) (hash : List ℕ) (old : Meta) → Kept t m → Stands t id i → Read t i old → at ≡ old.slot * data_limit
-    → hash ≡ hash16 (take (at + len - at) (drop at m'))
-    → r ≡ with_meta t i (record { id = id; seq = seq; age = 0; len = len; slot = old.slot; since = since; hash = hash })
-    → (d : List ℕ) → length d ≡ len → len ≤ data_limit → m' ≡ written m ((meta_at t i).slot * data_limit) d → Stored (entry_of id seq d (anew since)) t m i r m'
-edited t r m m' i id seq since len at hash old k s o a h e d n l w =
-    let v : m' ≡ written m at d = w ∙ ap (λ (x : Meta). written m (x.slot * data_limit) d) (sym o.same) ∙ ap (λ (x : ℕ). written m x d) (sym a) in
-    replaced t r m m' d i id seq 0 since len old.slot at hash k (omega arith) (sym n)
-    (h ∙ ap hash16 (part-there m m' d at (at + len - at) v (omega arith) (omega (arith, o.low, k.room)))) a v old o refl s e
+pub edited : (t r : Table) (m m' : List ℕ) (i : ℕ) (v : Version) (e : Meta) (len at : ℕ) (hash : List ℕ) (old : Meta) → Kept t m → Stands t v.id i → Read t i old → at ≡ old.slot * data_limit
+    → hash ≡ hash16 (take (at + len - at) (drop at m')) → e ≡ entry_in v old.slot len hash → r ≡ with_meta t i e
+    → (d : List ℕ) → length d ≡ len → len ≤ data_limit → m' ≡ written m ((meta_at t i).slot * data_limit) d → Stored (version_of v d) t m i r m'
+edited t r m m' i v e len at hash old k s o a h f x d n l w =
+    let u : m' ≡ written m at d = w ∙ ap (λ (x : Meta). written m (x.slot * data_limit) d) (sym o.same) ∙ ap (λ (x : ℕ). written m x d) (sym a) in
+    replaced t r m m' d i v e old.slot at hash k (omega arith)
+    (h ∙ ap hash16 (part-there m m' d at (at + len - at) u (omega arith) (omega (arith, o.low, k.room))))
+    (f ∙ ap (λ (x : ℕ). entry_in v old.slot x hash) (sym n)) (a ∙ ap (λ (x : Meta). x.slot * data_limit) (sym f)) u old o refl s x
 
 -- bytes put in, or taken out: what is published then
-module _ (t r : Table) (m m' : List ℕ) (i id seq since p at : ℕ) (old : Meta) (k : Kept t m) (o : Read t i old) (a : at ≡ old.slot * data_limit) where
+module _ (t r : Table) (m m' : List ℕ) (i : ℕ) (v : Version) (p at len : ℕ) (old : Meta) (k : Kept t m) (o : Read t i old) (a : at ≡ old.slot * data_limit) (l : len ≡ old.len) where
   abbrev Publishes : ℕ → Type 0
-  Publishes len = (x d : List ℕ) → Kept t x → length d ≡ len → m' ≡ written x ((meta_at t i).slot * data_limit) d → Stored (entry_of id seq d (anew since)) t x i r m'
+  Publishes n = (x d : List ℕ) → Kept t x → length d ≡ n → m' ≡ written x ((meta_at t i).slot * data_limit) d → Stored (version_of v d) t x i r m'
 
   -- in the terms of the entry that was read
-  in_place : (f : List ℕ → List ℕ) (len : ℕ) → length (f (part m (old.slot * data_limit) old.len)) ≡ len
-      → m' ≡ written m at (f (part m at old.len)) → Publishes len
-      → Stored (entry_of id seq (f (data_of m (meta_at t i))) (anew since)) t m i r m'
-  in_place f len n w e =
-      subst (λ (x : Meta). Stored (entry_of id seq (f (data_of m x)) (anew since)) t m i r m') o.same
-      (e m (f (part m (old.slot * data_limit) old.len)) k n
-      (w ∙ ap (λ (x : ℕ). written m x (f (part m x old.len))) a ∙ ap (λ (x : Meta). written m (x.slot * data_limit) (f (part m (old.slot * data_limit) old.len))) o.same))
+  in_place : (f : List ℕ → List ℕ) (n : ℕ) → length (f (part m (old.slot * data_limit) old.len)) ≡ n
+      → m' ≡ written m at (f (part m at len)) → Publishes n
+      → Stored (version_of v (f (data_of m (meta_at t i)))) t m i r m'
+  in_place f n h w e =
+      subst (λ (x : Meta). Stored (version_of v (f (data_of m x))) t m i r m') o.same
+      (e m (f (part m (old.slot * data_limit) old.len)) k h
+      (w ∙ ap (λ (x : ℕ). written m at (f (part m at x))) l ∙ ap (λ (x : ℕ). written m x (f (part m x old.len))) a ∙ ap (λ (x : Meta). written m (x.slot * data_limit) (f (part m (old.slot * data_limit) old.len))) o.same))
 
-  pub spliced_in : (b : List ℕ) → p ≤ (meta_at t i).len → m' ≡ written m at (spliced (part m at old.len) p b)
-      → Publishes (old.len + length b) → Stored (entry_of id seq (spliced (data_of m (meta_at t i)) p b) (anew since)) t m i r m'
+  pub spliced_in : (b : List ℕ) → p ≤ (meta_at t i).len → m' ≡ written m at (spliced (part m at len) p b)
+      → Publishes (len + length b) → Stored (version_of v (spliced (data_of m (meta_at t i)) p b)) t m i r m'
   spliced_in b q w =
-      in_place (λ (d : List ℕ). spliced d p b) (old.len + length b)
-      (spliced-length m (old.slot * data_limit) old.len p (omega (arith, o.low, o.short, k.room)) b (omega (arith, o.long))) w
+      in_place (λ (d : List ℕ). spliced d p b) (len + length b)
+      (rw l (spliced-length m (old.slot * data_limit) old.len p (omega (arith, o.low, o.short, k.room)) b (omega (arith, o.long)))) w
 
-  pub cut_out : (n : ℕ) → p + n ≤ (meta_at t i).len → m' ≡ written m at (cut (part m at old.len) p n)
-      → Publishes (old.len - n) → Stored (entry_of id seq (cut (data_of m (meta_at t i)) p n) (anew since)) t m i r m'
+  pub cut_out : (n : ℕ) → p + n ≤ (meta_at t i).len → m' ≡ written m at (cut (part m at len) p n)
+      → Publishes (len - n) → Stored (version_of v (cut (data_of m (meta_at t i)) p n)) t m i r m'
   cut_out n q w =
-      in_place (λ (d : List ℕ). cut d p n) (old.len - n)
-      (cut-length m (old.slot * data_limit) old.len p (omega (arith, o.low, o.short, k.room)) n (omega (arith, o.long))) w
+      in_place (λ (d : List ℕ). cut d p n) (len - n)
+      (rw l (cut-length m (old.slot * data_limit) old.len p (omega (arith, o.low, o.short, k.room)) n (omega (arith, o.long)))) w
 
 pub renumbered_by : (t r : Table) (i id seq age since : ℕ) (old : Meta) → Arranged t → Stands t id i → Read t i old
     → r ≡ with_meta t i (record { id = id; seq = seq; age = age; len = old.len; slot = old.slot; since = since; hash = old.hash }) → Renumbered id seq age since t i r
@@ -369,10 +389,6 @@ renumbered_by t r i id seq age since old k s o e =
     rw e
     (renumbered t (record { id = id; seq = seq; age = age; len = old.len; slot = old.slot; since = since; hash = old.hash }) i k s
     (ap (λ (x : Meta). x.slot) o.same) (ap (λ (x : Meta). x.len) o.same) (ap (λ (x : Meta). x.hash) o.same))
-
--- the part of the memory from where an entry's slot starts
-pub bytes_read : (m : List ℕ) (e : Meta) (at : ℕ) → at ≡ e.slot * data_limit → take (at + e.len - at) (drop at m) ≡ data_of m e
-bytes_read m e at a = let n : at + e.len - at ≡ e.len = omega arith in rw (n, a)
 
 pub length_mapped : {X Y : Type 0} (f : X → Y) (l : List X) (n : ℕ) → length (map f l) ≡ n → length l ≡ n
 length_mapped f l n p = sym (length-map l f) ∙ p
@@ -399,23 +415,24 @@ free-from s (e ∷ l) f = (f 0 (suc-le-suc zero-le), free-from s l (λ k p. f (s
 pub unused_free : (t : Table) (s : ℕ) → Arranged t → SlotUsed t s false → Free s (live t)
 unused_free t s k f = free-from s (live t) (λ j p. let q : j < t.count = rw (live-length t k) at p in rw (live_at t j q) (f j q))
 
--- the search for a slot goes on
-module _ (l : List Meta) (i : ℕ) (d : Meta) (x : ℕ) (h : i < length l) where
-  pub slot_is : (get_or l i d).slot ≡ x → (get_or l i no_meta).slot ≡ x
-  slot_is e = ap (λ (r : Meta). r.slot) (get_d_any l i no_meta d h) ∙ e
+-- the entries from a place on moved up, and one put in there
+pub moved_up : (l : List Meta) (i n : ℕ) (e : Meta) → i ≤ n → n < length l → set (copy_within l i n (i + 1)) i e ≡ take (n + 1) (take i l ++ (e ∷ drop i l)) ++ drop (n + 1) l
+moved_up l i n e p q = ap (λ (x : List Meta). set x i e) before ∙ set_at (take i l) (get_or l i no_meta) _ e i long ∙ sym after
+  where
+    long : length (take i l) ≡ i
+    long = length-take-le i l (omega arith)
 
-  pub slots_differ : ¬ ((get_or l i d).slot ≡ x) → ((k : ℕ) → k < i → ¬ ((get_or l k no_meta).slot ≡ x)) → (k : ℕ) → k < i + 1 → ¬ ((get_or l k no_meta).slot ≡ x)
-  slots_differ n f k q =
-      by_order k i (λ r. f k r) (λ r. rw r (λ z. n (ap (λ (r : Meta). r.slot) (get_d_any l i d no_meta h) ∙ z))) (λ r. absurd (omega arith))
+    before : copy_within l i n (i + 1) ≡ take i l ++ (get_or l i no_meta ∷ (take (n - i) (drop i l) ++ drop (n + 1) l))
+    before =
+        let w : i + 1 + (n - i) ≡ n + 1 = omega arith in
+        rw (w, add-one i, take-suc l i no_meta (omega arith))
+        (append_assoc (take i l ++ (get_or l i no_meta ∷ [])) (take (n - i) (drop i l)) (drop (n + 1) l) ∙ append_assoc (take i l) (get_or l i no_meta ∷ []) (take (n - i) (drop i l) ++ drop (n + 1) l))
 
-pub slots-used : (t : Table) (s : ℕ) → SlotUsed t s true → ((u : ℕ) → u < s → SlotUsed t u true) → (u : ℕ) → u < s + 1 → SlotUsed t u true
-slots-used t s w f u p = by_order u s (λ q. f u q) (λ q. rw q w) (λ q. absurd (omega arith))
-
-pub store_on : (n n₀ : Table) (x y : List Meta) (j : ℕ) (v : Meta) → n ≡ with_entries n₀ x → set x j v ≡ y → with_entries n (set n.entries j v) ≡ with_entries n₀ y
-store_on n n₀ x y j v p q = rw p (rw q)
-
-pub store_end : (n n₀ : Table) (x y : List Meta) (j k : ℕ) (v : Meta) → n ≡ with_entries n₀ x → set x j v ≡ y → ◌≡◌ {A = Table} (record { count = k; entries = set n.entries j v }) (record { count = k; entries = y })
-store_end n n₀ x y j k v p q = rw p (rw q)
+    after : take (n + 1) (take i l ++ (e ∷ drop i l)) ++ drop (n + 1) l ≡ take i l ++ (e ∷ (take (n - i) (drop i l) ++ drop (n + 1) l))
+    after =
+        let w : n + 1 ≡ length (take i l) + suc (n - i) = rw long (omega arith) in
+        ap (λ (x : List Meta). x ++ drop (n + 1) l) (ap (λ (k : ℕ). take k (take i l ++ (e ∷ drop i l))) w ∙ take-append-add (take i l) (e ∷ drop i l) (suc (n - i)))
+        ∙ append_assoc (take i l) (e ∷ take (n - i) (drop i l)) (drop (n + 1) l)
 
 -- ---- entries kept by mark
 
@@ -466,26 +483,12 @@ purged bs t r k most wide q =
     viewed : (m : List ℕ) → view r m ≡ keep_by bs (view t m)
     viewed m = rw q (seen-keep m bs (live t))
 
--- one entry passed
-pub keep-step : (bs : List Bool) (l ns : List Meta) (i j : ℕ) → i < length bs → i < length l → j < length ns
-    → take j ns ++ keep_by (drop i bs) (drop i l) ≡ take (cond (get_or bs i false) (j + 1) j) (set ns j (get_or l i no_meta)) ++ keep_by (drop (i + 1) bs) (drop (i + 1) l)
-keep-step bs l ns i j p q r = rw (add-one i, drop-cons bs i false p, drop-cons l i no_meta q) (sym (go (get_or bs i false)))
-  where
-    go : (b : Bool) → take (cond b (j + 1) j) (set ns j (get_or l i no_meta)) ++ keep_by (drop (suc i) bs) (drop (suc i) l) ≡ take j ns ++ cond b (get_or l i no_meta ∷ keep_by (drop (suc i) bs) (drop (suc i) l)) (keep_by (drop (suc i) bs) (drop (suc i) l))
-    go true = rw (add-one j, take-suc-set ns j (get_or l i no_meta) r) (append_snoc (take j ns) (get_or l i no_meta) (keep_by (drop (suc i) bs) (drop (suc i) l)))
-    go false = rw (take-set-le j ns j (get_or l i no_meta) (omega arith))
-
-pub keep_end : (bs : List Bool) (l ns : List Meta) (i j : ℕ) → length l ≤ i → take j ns ++ keep_by (drop i bs) (drop i l) ≡ take j ns
-keep_end bs l ns i j p = rw (drop_of_length-le l {i = i} p, keep_by_nil (drop i bs)) (append-nil (take j ns))
-
-pub cond-most : (b : Bool) (j i : ℕ) → j ≤ i → cond b (j + 1) j ≤ i + 1
-cond-most true j i p = omega arith
-cond-most false j i p = omega arith
-
-pub keep_on : (bs : List Bool) (t : Table) (ns : List Meta) (i j k : ℕ) → i < length bs → Arranged t → i < t.count → j < length ns → k ≡ cond (get_or bs i false) (j + 1) j
-    → keep_by bs (live t) ≡ take j ns ++ keep_by (drop i bs) (drop i (live t)) → keep_by bs (live t) ≡ take k (set ns j (meta_at t i)) ++ keep_by (drop (i + 1) bs) (drop (i + 1) (live t))
-keep_on bs t ns i j k p w q r e h =
-    h ∙ keep-step bs (live t) ns i j p (rw (live-length t w) q) r ∙ rw (e, live_at t i q)
+-- none is left
+pub keep_end : (ns : List Meta) (j : ℕ) (bs : List Bool) (l : List Meta) → (length l ≡ 0) ⊎ (length bs ≡ 0) → take j ns ++ keep_by bs l ≡ take j ns
+keep_end ns j [] l h = append-nil (take j ns)
+keep_end ns j (b ∷ bs) [] h = append-nil (take j ns)
+keep_end ns j (b ∷ bs) (e ∷ l) (inl p) = absurd (omega arith)
+keep_end ns j (b ∷ bs) (e ∷ l) (inr p) = absurd (omega arith)
 
 -- ---- found, in the model
 
@@ -529,12 +532,20 @@ unfolding view
 none-held m l h n =
     (record { arranged = record { most = omega arith; wide = n; ascending = tt; fit = tt; apart = tt }; room = h; hashed = tt }, refl)
 
-pub begun : (own clock : ℕ) (hash m : List ℕ) (l : List Meta) → table_bytes ≤ length m → hash ≡ hash16 [] → length l ≡ 31
-    → Kept (record { count = 1; entries = record { id = own; seq = 0; age = 0; len = 0; slot = 0; since = clock; hash = hash } ∷ l }) m
-    × (view (record { count = 1; entries = record { id = own; seq = 0; age = 0; len = 0; slot = 0; since = clock; hash = hash } ∷ l }) m ≡ entry_of own 0 [] (anew clock) ∷ [])
-unfolding view
-begun own clock hash m l r h n =
-    (record { arranged = record { most = omega arith; wide = omega arith; ascending = (tt, tt); fit = ((omega arith, omega arith), tt); apart = (tt, tt) }; room = r; hashed = (h, tt) }, refl)
+pub empty-count : (t : Table) (m : List ℕ) → Kept t m × (view t m ≡ []) → t.count ≡ 0
+empty-count t m k = sym (view-length t k.0.arranged m) ∙ ap length k.1
+
+-- the first entry, with no data
+pub begun : (t r : Table) (m : List ℕ) (own clock : ℕ) (hash : List ℕ) (e : Meta) → table_bytes ≤ length m → Kept t m × (view t m ≡ []) → hash ≡ hash16 [] → e ≡ entry_in (version_anew own 0 clock) 0 0 hash → r ≡ inserted t 0 e
+    → Kept r m × (view r m ≡ entry_of own 0 [] (anew clock) ∷ [])
+unfolding put insert
+begun t r m own clock hash e room k h q p =
+    let n : t.count ≡ 0 = empty-count t m k in
+    let free : Free 0 (live t) = rw n tt in
+    let s : Stored (entry_of own 0 [] (anew clock)) t m 0 r (written m 0 []) =
+    rw (p, q) (stored_new t m (entry_in (version_anew own 0 clock) 0 0 hash) [] 0 k.0 (omega arith) (record { at = omega arith; below = λ j l. absurd (omega arith); above = λ l. absurd (omega arith) }) (omega arith) free refl (omega arith) h) in
+    let w : written m 0 [] ≡ m = written_self m 0 0 (omega arith) in
+    (rw w at s.kept, rw w at s.viewed ∙ ap (put (entry_of own 0 [] (anew clock))) k.1)
 
 -- what holds of every entry of the model's table
 pub all-stored : (P : Entry → Type 0) (e : Entry) (t r : Table) (m m' : List ℕ) (i : ℕ) → Stored e t m i r m' → P e → All P (view t m) → All P (view r m')
@@ -546,11 +557,3 @@ pub meta_hashed : (t : Table) (m : List ℕ) (i : ℕ) → Kept t m → i < t.co
 meta_hashed t m i k p =
     subst (λ (e : Meta). e.hash ≡ hash16 (data_of m e)) (live_at t i p)
     (all-at (λ (e : Meta). e.hash ≡ hash16 (data_of m e)) no_meta (live t) i k.hashed (rw (live-length t k.arranged) p))
-
--- what a search found, by its answer
-module _ (t : Table) (id i : ℕ) (f : Found) where
-  pub stands_of : f ≡ At i → Finding t id f → Stands t id i
-  stands_of e h = subst (λ (x : Found). Finding t id x) e h
-
-  pub gap_of : f ≡ Missing i → Finding t id f → Gap t id i
-  gap_of e h = subst (λ (x : Found). Finding t id x) e h

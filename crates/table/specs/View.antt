@@ -1,5 +1,5 @@
 -- The code's node table with its memory as the table of the model. Assumes nothing.
-use Rattle.std.specs.Prelude.{ℕ, ◌+◌, ◌*◌, ◌≤◌, ◌<◌, ◌≡◌, Bool, true, false, List, [], ◌∷◌, ◌++◌, map, length, get_or, take, drop, set}
+use Rattle.std.specs.Prelude.{ℕ, ◌+◌, ◌*◌, ◌≤◌, ◌<◌, ◌≡◌, Bool, true, false, List, [], ◌∷◌, ◌++◌, map, length, get_or, take, drop, set, Result, Ok, Err}
 use Rattle.std.proofs.Math.Option.{Option, some}
 use Rattle.base.specs.Lists.{or_else, is_some, All, keep_by}
 use Rattle.base.specs.Memory.{written, Outside}
@@ -10,8 +10,7 @@ use Rattle.model.specs.Figures.{most_nodes, data_limit, table_bytes}
 use Rattle.model.specs.Table.{Entry, entry_of, id_of, put, stamp}
 use Rattle.table.specs.declared.Table.{Table}
 use Rattle.table.specs.declared.Entry.{Entry as Meta}
-use Rattle.table.specs.declared.Found.{Found}
-use Rattle.table.specs.declared.Found.TheVariants.{At, Missing}
+use Rattle.table.specs.declared.Version.{Version}
 
 abbrev pub no_meta : Meta
 no_meta = record { id = 0; seq = 0; age = 0; len = 0; slot = 0; since = 0; hash = [] }
@@ -32,6 +31,17 @@ data_of m e = take e.len (drop (e.slot * data_limit) m)
 -- the entry that e stands for, where its data are the bytes d
 abbrev pub entry_with : Meta → List ℕ → Entry
 entry_with e d = entry_of e.id e.seq d (stamp e.age e.since)
+
+-- the entry of a version with the data d
+abbrev pub version_of : Version → List ℕ → Entry
+version_of v d = entry_of v.id v.seq d (stamp v.age v.since)
+
+abbrev pub version_anew : ℕ → ℕ → ℕ → Version
+version_anew id seq since = record { id = id; seq = seq; age = 0; since = since }
+
+-- as it is kept
+abbrev pub entry_in : Version → ℕ → ℕ → List ℕ → Meta
+entry_in v slot len hash = record { id = v.id; seq = v.seq; age = v.age; len = len; slot = slot; since = v.since; hash = hash }
 
 abbrev pub seen : List ℕ → Meta → Entry
 seen m e = entry_with e (data_of m e)
@@ -99,9 +109,9 @@ pub record Gap (t : Table) (id i : ℕ) : Type 0 where
   pub below : (j : ℕ) → j < i → (meta_at t j).id < id
   pub above : i < t.count → id < (meta_at t i).id
 
-abbrev pub Finding : Table → ℕ → Found → Type 0
-Finding t id (At i) = Stands t id i
-Finding t id (Missing i) = Gap t id i
+abbrev pub Finding : Table → ℕ → Result ℕ ℕ → Type 0
+Finding t id (Ok i) = Stands t id i
+Finding t id (Err i) = Gap t id i
 
 -- ---- the memory, byte by byte
 
@@ -142,9 +152,6 @@ pub record Stored (e : Entry) (t : Table) (m : List ℕ) (i : ℕ) (r : Table) (
   pub memory : m' ≡ written m ((meta_at r i).slot * data_limit) e.says.node_data
   pub slots : SlotsStay t r
   pub beyond : drop table_bytes m' ≡ drop table_bytes m
-
-abbrev pub with_entries : Table → List Meta → Table
-with_entries t l = record { count = t.count; entries = l }
 
 abbrev pub with_meta : Table → ℕ → Meta → Table
 with_meta t i e = record { count = t.count; entries = set t.entries i e }

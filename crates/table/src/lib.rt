@@ -6,7 +6,7 @@ ghost use Rattle.base.specs.Memory.{written, spliced, cut};
 ghost use Rattle.model.specs.Figures.{most_nodes, data_limit, table_bytes, most_age, last_reading};
 ghost use Rattle.model.specs.Table.{entry_of, stamp, anew};
 ghost use Rattle.sha256.specs.Sha256.{hash16};
-ghost use Rattle.table.specs.View.{view, live, meta_at, data_of, Free, FitMeta, Arranged, Kept, Stands, Gap, Finding, Read, Stored, Renumbered, Purged, SlotUsed, with_meta, inserted};
+ghost use Rattle.table.specs.View.{view, live, meta_at, data_of, Free, FitMeta, Arranged, Kept, Stands, Gap, Finding, Read, Stored, Renumbered, Purged, SlotUsed, with_meta, inserted, version_of, version_anew, entry_in};
 
 use base::memory::{insert_bytes, remove_bytes, store};
 use model::figures::{DATA_LIMIT, MOST_AGE, MOST_NODES};
@@ -18,7 +18,7 @@ const SLOT: usize = DATA_LIMIT;
 // Slots: one for each node that can be held.
 const SLOTS: u16 = MOST_NODES as u16;
 
-// The fields of an entry leave no gap, 40 bytes in all: a state holds 32 of these and is copied whole.
+// The fields of an entry leave no gap, 40 bytes in all: a state holds 32 of these and is copied whole. Lengths and counts beside data and lists are the C interface.
 
 // What is held of one node. Its data are the len bytes from slot * DATA_LIMIT on in the table memory.
 #[repr(C)]
@@ -36,6 +36,45 @@ pub struct Entry {
     pub hash: [u8; 16],
 }
 
+// Whose data are put in, with which number, and how old they are at the reading since.
+#[derive(Clone, Copy)]
+pub struct Version {
+    pub id: u32,
+    pub seq: u32,
+    pub age: u32,
+    pub since: u64,
+}
+
+impl Version {
+    // The number `seq` at age 0: what our own node publishes.
+    pub fn anew(id: u32, seq: u32, since: u64) -> Self
+        ensures { result ≡ version_anew id seq since }
+    {
+        Version {
+            id,
+            seq,
+            age: 0,
+            since,
+        }
+    }
+
+    // Its entry, with len bytes of data in this slot.
+    fn entry(self, slot: u16, len: usize, hash: [u8; 16]) -> Entry
+        requires { len ≤ data_limit }
+        ensures { result ≡ entry_in self slot len hash }
+    {
+        Entry {
+            id: self.id,
+            seq: self.seq,
+            age: self.age,
+            len: len as u16,
+            slot,
+            since: self.since,
+            hash,
+        }
+    }
+}
+
 // The nodes held, ascending by identifier: the first count entries.
 #[repr(C)]
 #[derive(Clone, Copy)]
@@ -44,33 +83,14 @@ pub struct Table {
     pub entries: [Entry; MOST_NODES],
 }
 
-// Where a node stands, or where it would.
-#[derive(Clone, Copy)]
-pub enum Found {
-    At(usize),
-    Missing(usize),
-}
-
 // ---- metadata
 
-// The place of a node.
-pub fn find(t: Table, id: u32) -> Found
+// The place of a node; if it is not held, the place where it would stand.
+pub fn find(t: Table, id: u32) -> Result<usize, usize>
     requires { Arranged t }
     ensures { Finding t id result }
 {
-    let count = t.count;
-    let mut i = 0;
-    while i < count {
-        let e = t.entries[i];
-        if e.id == id {
-            return Found::At(i);
-        }
-        if id < e.id {
-            return Found::Missing(i);
-        }
-        i += 1;
-    }
-    Found::Missing(i)
+    t.entries[..t.count].binary_search_by_key(&id, |e| e.id)
 }
 
 // The entry at place i.
@@ -86,7 +106,7 @@ pub fn age_at(e: Entry, clock: u64) -> u64
     requires { (e.since ≤ clock) × (clock ≤ last_reading) }
     ensures { result ≡ e.age + (clock - e.since) }
 {
-    e.age as u64 + (clock - e.since)
+    u64::from(e.age) + (clock - e.since)
 }
 
 // The same as it is sent and saved: at most 2^32 - 1.
@@ -94,41 +114,28 @@ pub fn capped_age(e: Entry, clock: u64) -> u32
     requires { (e.since ≤ clock) × (clock ≤ last_reading) }
     ensures { result ≡ min (e.age + (clock - e.since)) most_age }
 {
-    let age = age_at(e, clock);
-    if MOST_AGE < age {
-        return MOST_AGE as u32;
-    }
-    age as u32
+    age_at(e, clock).min(MOST_AGE) as u32
 }
 
 // The table with e at place i.
-fn with_meta(t: Table, i: usize, e: Entry) -> Table
+fn with_meta(mut t: Table, i: usize, e: Entry) -> Table
     requires { i < most_nodes }
     ensures { result ≡ with_meta t i e }
 {
-    let mut n = t;
-    n.entries[i] = e;
-    n
+    t.entries[i] = e;
+    t
 }
 
 // The entries from place i on move up by one, and e goes in there.
-fn insert_meta(t: Table, i: usize, e: Entry) -> Table
+fn insert_meta(mut t: Table, i: usize, e: Entry) -> Table
     requires { (t.count < most_nodes) × (i ≤ t.count) }
     ensures { result ≡ inserted t i e }
 {
-    let mut n = t;
-    let count = n.count;
-    let mut carry = e;
-    let mut j = i;
-    while j < count {
-        let x = n.entries[j];
-        n.entries[j] = carry;
-        carry = x;
-        j += 1;
-    }
-    n.entries[count] = carry;
-    n.count = count + 1;
-    n
+    let count = t.count;
+    t.entries.copy_within(i..count, i + 1);
+    t.entries[i] = e;
+    t.count = count + 1;
+    t
 }
 
 // ---- slots
@@ -138,16 +145,7 @@ fn slot_used(t: Table, s: u16) -> bool
     requires { Arranged t }
     ensures { SlotUsed t s result }
 {
-    let count = t.count;
-    let mut i = 0;
-    while i < count {
-        let e = t.entries[i];
-        if e.slot == s {
-            return true;
-        }
-        i += 1;
-    }
-    false
+    t.entries[..t.count].iter().any(|e| e.slot == s)
 }
 
 // A slot that no node uses: there is one while fewer than 32 are held.
@@ -155,14 +153,12 @@ fn free_slot(t: Table) -> u16
     requires { Arranged t × (t.count < most_nodes) }
     ensures { (result < most_nodes) × Free result (live t) }
 {
-    let mut s = 0;
-    while s < SLOTS {
-        let b = slot_used(t, s);
-        if !b {
+    for s in 0..SLOTS {
+        if !slot_used(t, s) {
             return s;
         }
-        s += 1;
     }
+    // Never reached: there are more slots than nodes.
     0
 }
 
@@ -172,7 +168,7 @@ fn free_slot(t: Table) -> u16
 pub fn start_of(e: Entry) -> usize
     ensures { result ≡ e.slot * data_limit }
 {
-    e.slot as usize * SLOT
+    usize::from(e.slot) * SLOT
 }
 
 // The data of the entry e, as a part of the memory.
@@ -181,8 +177,7 @@ pub fn bytes_of<'a>(e: Entry, mem: &'a [u8]) -> &'a [u8]
     ensures { (result.now ≡ data_of mem.now e) × ((result.ref_ptr.0 ≡ mem.entry.ref_ptr.0) × (result.ref_ptr.1 ≡ e.slot * data_limit + mem.entry.ref_ptr.1)) }
 {
     let a = start_of(e);
-    let b = a + e.len as usize;
-    &mem[a..b]
+    &mem[a..a + usize::from(e.len)]
 }
 
 // The data of the node at place i, as a part of the memory.
@@ -193,96 +188,48 @@ pub fn data_of<'a>(t: Table, mem: &'a [u8], i: usize) -> &'a [u8]
     bytes_of(meta_at(t, i), mem)
 }
 
-// New number, age, reading and data for the node at place i.
+// A new version for the node at place i, with its data.
 pub fn replace(
     t: Table,
     mem: &mut [u8],
     i: usize,
-    id: u32,
-    seq: u32,
-    age: u32,
-    clock: u64,
+    v: Version,
     hash: [u8; 16],
     bytes: &[u8],
 ) -> Table
-    requires { Kept t mem.old × (Stands t id i × ((length bytes.now ≤ data_limit) × (hash ≡ hash16 bytes.now))) }
-    ensures { Stored (entry_of id seq bytes.now (stamp age clock)) t mem.old i result mem.new }
+    requires { Kept t mem.old × (Stands t v.id i × ((length bytes.now ≤ data_limit) × (hash ≡ hash16 bytes.now))) }
+    ensures { Stored (version_of v bytes.now) t mem.old i result mem.new }
 {
     let old = meta_at(t, i);
-    let e = Entry {
-        id,
-        seq,
-        age,
-        len: bytes.len() as u16,
-        slot: old.slot,
-        since: clock,
-        hash,
-    };
+    let e = v.entry(old.slot, bytes.len(), hash);
     store(mem, start_of(e), bytes);
     with_meta(t, i, e)
 }
 
 // A new node, at its place i.
-pub fn insert(
-    t: Table,
-    mem: &mut [u8],
-    i: usize,
-    id: u32,
-    seq: u32,
-    age: u32,
-    clock: u64,
-    hash: [u8; 16],
-    bytes: &[u8],
-) -> Table
-    requires { Kept t mem.old × ((t.count < most_nodes) × (Gap t id i × ((length bytes.now ≤ data_limit) × (hash ≡ hash16 bytes.now)))) }
-    ensures { Stored (entry_of id seq bytes.now (stamp age clock)) t mem.old i result mem.new }
+pub fn insert(t: Table, mem: &mut [u8], i: usize, v: Version, hash: [u8; 16], bytes: &[u8]) -> Table
+    requires { Kept t mem.old × ((t.count < most_nodes) × (Gap t v.id i × ((length bytes.now ≤ data_limit) × (hash ≡ hash16 bytes.now)))) }
+    ensures { Stored (version_of v bytes.now) t mem.old i result mem.new }
 {
-    let e = Entry {
-        id,
-        seq,
-        age,
-        len: bytes.len() as u16,
-        slot: free_slot(t),
-        since: clock,
-        hash,
-    };
+    let e = v.entry(free_slot(t), bytes.len(), hash);
     store(mem, start_of(e), bytes);
     insert_meta(t, i, e)
 }
 
-// New number, age and reading for the node at place i; its data stay.
-pub fn renumber(t: Table, i: usize, id: u32, seq: u32, age: u32, clock: u64) -> Table
-    requires { Arranged t × Stands t id i }
-    ensures { Renumbered id seq age clock t i result }
+// A new version for the node at place i; its data stay.
+pub fn renumber(t: Table, i: usize, v: Version) -> Table
+    requires { Arranged t × Stands t v.id i }
+    ensures { Renumbered v.id v.seq v.age v.since t i result }
 {
     let old = meta_at(t, i);
-    let len = old.len;
-    let slot = old.slot;
-    let hash = old.hash;
-    with_meta(
-        t,
-        i,
-        Entry {
-            id,
-            seq,
-            age,
-            len,
-            slot,
-            since: clock,
-            hash,
-        },
-    )
-}
-
-// One more if it is kept.
-fn counted(j: usize, kept: bool) -> usize
-    requires { j < most_nodes }
-    ensures { result ≡ cond kept (j + 1) j }
-{
-    if kept {
-        return j + 1;
-    }
-    j
+    let e = Entry {
+        id: v.id,
+        seq: v.seq,
+        age: v.age,
+        since: v.since,
+        ..old
+    };
+    with_meta(t, i, e)
 }
 
 // Only the nodes whose mark is set stay.
@@ -290,16 +237,13 @@ pub fn purge(t: Table, marks: [bool; MOST_NODES]) -> Table
     requires { Arranged t }
     ensures { Purged marks t result }
 {
-    let count = t.count;
     let mut n = t;
     let mut j = 0;
-    let mut i = 0;
-    while i < count {
-        let e = t.entries[i];
-        n.entries[j] = e;
-        let m = marks[i];
-        j = counted(j, m);
-        i += 1;
+    for (e, kept) in t.entries[..t.count].iter().zip(&marks) {
+        if *kept {
+            n.entries[j] = *e;
+            j += 1;
+        }
     }
     n.count = j;
     n
@@ -307,76 +251,38 @@ pub fn purge(t: Table, marks: [bool; MOST_NODES]) -> Table
 
 // ---- own data in place
 
-// The node at place i publishes the first `len` bytes of its slot, which were changed there before.
-pub fn publish_slot(
-    t: Table,
-    mem: &[u8],
-    i: usize,
-    id: u32,
-    seq: u32,
-    clock: u64,
-    len: usize,
-) -> Table
-    requires { Arranged t × (Stands t id i × ((len ≤ data_limit) × (table_bytes ≤ length mem.now))) }
-    ensures { (m d : List ℕ) → Kept t m → length d ≡ len → mem.now ≡ written m ((meta_at t i).slot * data_limit) d → Stored (entry_of id seq d (anew clock)) t m i result mem.now }
+// The version of the node at place i has the first `len` bytes of its slot, which were changed there before.
+pub fn publish_slot(t: Table, mem: &[u8], i: usize, v: Version, len: usize) -> Table
+    requires { Arranged t × (Stands t v.id i × ((len ≤ data_limit) × (table_bytes ≤ length mem.now))) }
+    ensures { (m d : List ℕ) → Kept t m → length d ≡ len → mem.now ≡ written m ((meta_at t i).slot * data_limit) d → Stored (version_of v d) t m i result mem.now }
 {
     let old = meta_at(t, i);
     let at = start_of(old);
     let end = at + len;
     let hash = hash16(&mem[at..end]);
-    with_meta(
-        t,
-        i,
-        Entry {
-            id,
-            seq,
-            age: 0,
-            len: len as u16,
-            slot: old.slot,
-            since: clock,
-            hash,
-        },
-    )
+    with_meta(t, i, v.entry(old.slot, len, hash))
 }
 
-// The node at place i publishes its data with the bytes put in at place p.
-pub fn insert_tlv(
-    t: Table,
-    mem: &mut [u8],
-    i: usize,
-    id: u32,
-    seq: u32,
-    clock: u64,
-    p: usize,
-    bytes: &[u8],
-) -> Table
-    requires { Kept t mem.old × (Stands t id i × ((p ≤ (meta_at t i).len) × ((meta_at t i).len + length bytes.now ≤ data_limit))) }
-    ensures { Stored (entry_of id seq (spliced (data_of mem.old (meta_at t i)) p bytes.now) (anew clock)) t mem.old i result mem.new }
+// The version of the node at place i has its data with the bytes put in at place p.
+pub fn insert_tlv(t: Table, mem: &mut [u8], i: usize, v: Version, p: usize, bytes: &[u8]) -> Table
+    requires { Kept t mem.old × (Stands t v.id i × ((p ≤ (meta_at t i).len) × ((meta_at t i).len + length bytes.now ≤ data_limit))) }
+    ensures { Stored (version_of v (spliced (data_of mem.old (meta_at t i)) p bytes.now)) t mem.old i result mem.new }
 {
     let old = meta_at(t, i);
-    let len = old.len as usize;
+    let len = usize::from(old.len);
     insert_bytes(mem, start_of(old), len, p, bytes);
-    publish_slot(t, mem, i, id, seq, clock, len + bytes.len())
+    publish_slot(t, mem, i, v, len + bytes.len())
 }
 
-// The node at place i publishes its data without the n bytes from place p: one TLV, or several that stand together.
-pub fn remove_tlv(
-    t: Table,
-    mem: &mut [u8],
-    i: usize,
-    id: u32,
-    seq: u32,
-    clock: u64,
-    p: usize,
-    n: usize,
-) -> Table
-    requires { Kept t mem.old × (Stands t id i × (p + n ≤ (meta_at t i).len)) }
-    ensures { Stored (entry_of id seq (cut (data_of mem.old (meta_at t i)) p n) (anew clock)) t mem.old i result mem.new }
+// The version of the node at place i has its data without the n bytes from place p: one TLV, or several that stand together.
+pub fn remove_tlv(t: Table, mem: &mut [u8], i: usize, v: Version, p: usize, n: usize) -> Table
+    requires { Kept t mem.old × (Stands t v.id i × (p + n ≤ (meta_at t i).len)) }
+    ensures { Stored (version_of v (cut (data_of mem.old (meta_at t i)) p n)) t mem.old i result mem.new }
 {
     let old = meta_at(t, i);
-    let len = old.len as usize;
+    let len = usize::from(old.len);
     remove_bytes(mem, start_of(old), len, p, n);
-    publish_slot(t, mem, i, id, seq, clock, len - n)
+    publish_slot(t, mem, i, v, len - n)
 }
 
 // ---- tables to start from
@@ -385,15 +291,7 @@ pub fn remove_tlv(
 pub fn empty() -> Table
     ensures { (m : List ℕ) → table_bytes ≤ length m → Kept result m × (view result m ≡ []) }
 {
-    let e = Entry {
-        id: 0,
-        seq: 0,
-        age: 0,
-        len: 0,
-        slot: 0,
-        since: 0,
-        hash: [0; 16],
-    };
+    let e = Version::anew(0, 0, 0).entry(0, 0, [0; 16]);
     Table {
         count: 0,
         entries: [e; MOST_NODES],
@@ -405,18 +303,7 @@ pub fn begin(own: u32, clock: u64, mem: &[u8]) -> Table
     requires { table_bytes ≤ length mem.now }
     ensures { Kept result mem.now × (view result mem.now ≡ entry_of own 0 [] (anew clock) ∷ []) }
 {
-    let hash = hash16(&mem[0..0]);
-    let e = Entry {
-        id: own,
-        seq: 0,
-        age: 0,
-        len: 0,
-        slot: 0,
-        since: clock,
-        hash,
-    };
-    Table {
-        count: 1,
-        entries: [e; MOST_NODES],
-    }
+    let t = empty();
+    let e = Version::anew(own, 0, clock).entry(0, 0, hash16(&[]));
+    insert_meta(t, 0, e)
 }

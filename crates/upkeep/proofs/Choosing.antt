@@ -15,8 +15,7 @@ use Rattle.base.proofs.Tests.{by_test, not_no}
 use Rattle.base.proofs.Lists.{keep-every}
 use Rattle.wire.specs.Row.{is_row, tlvs}
 use Rattle.wire.specs.Order.{ascending, good, among, without}
-use Rattle.wire.specs.Answers.{TlvAt}
-use Rattle.wire.proofs.Good.{good-row, good_rises, good-fits, keep-good, tlvs-joined, not-among}
+use Rattle.wire.proofs.Good.{good-row, good_rises, keep-good, tlvs-joined, not-among}
 use Rattle.model.specs.Figures.{data_limit, publish_limit, usual_interval, most_keep_alive, keep_alive_bytes, last_reading}
 use Rattle.model.specs.Sequence.{advance}
 use Rattle.model.specs.State.{State as ModelState, Endpoint as ModelEndpoint, endpoint_at, with_endpoint, with_keep, own_seq, own_data, publish_as, publish, with_tlv, settle}
@@ -56,11 +55,6 @@ module _ (clock i : ℕ) (s : ModelState) (mid : Midway clock s) (low : 1 ≤ i)
       )
 
 module _ (i n : ℕ) (d : List ℕ) (r : is_row d ≡ true) (one : without_keep_alive i d ≡ join_all (without (keep_alive_tlv i n) (tlvs d))) (t : List ℕ) (w : t ≡ keep_alive_tlv i n) where
-  pub stands_at : (p : ℕ) → TlvAt d t p → KeepAliveStands i d (record { start = p; size = keep_alive_bytes })
-  stands_at p h =
-      let k : TlvAt d (keep_alive_tlv i n) p = subst (λ (x : List ℕ). TlvAt d x p) w h in
-      record { inside = omega (arith, k.within, alive-length i n); rest = ap (cut d p) (sym (alive-length i n)) ∙ k.rest ∙ sym one }
-
   pub stands_not : among t (tlvs d) ≡ false → KeepAliveStands i d (record { start = 0; size = 0 })
   unfolding without
   stands_not h =
@@ -113,11 +107,6 @@ module _ (i n : ℕ) (d : List ℕ) (g : good data_limit d ≡ true) (r : Span) 
 -- their length, as it is worked out
 module _ (clock i n : ℕ) (s : ModelState) (mid : Midway clock s) (r : Span) (d : List ℕ) (e : d ≡ own_data s) (h : KeepAliveStands i d r) (size : ℕ)
     (q : size ≡ cond (eqb n usual_interval) 0 keep_alive_bytes) where
-  pub come_small : length d - r.size + size < 2048
-  come_small =
-      let l : length d ≤ data_limit = rw e (good-fits data_limit (own_data s) (midway-own s mid).fine) in
-      omega (arith, l, size_small n size q)
-
   pub length-is : length d - r.size + size ≡ length (with_keep_alive i n (own_data s))
   length-is =
       ap (λ (x : List ℕ). length x - r.size + size) e ∙ sym (come_to i n (own_data s) (midway-own s mid).fine r (stands_in i (own_data s) d r e h) size q)

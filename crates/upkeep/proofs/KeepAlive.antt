@@ -2,18 +2,18 @@
 use mathlib.Core.Path.{◌≡◌, sym, ap, ◌∙◌}
 use mathlib.Core.Bool.{Bool, true, false, ◌&&◌}
 use mathlib.Core.List.{List}
-use Prim.Native.Nat.{ℕ, ◌+◌, ◌-◌, ◌*◌, ◌/◌, ◌≤◌, ◌<◌}
+use Prim.Native.Nat.{ℕ, ◌+◌, ◌-◌, ◌≤◌}
 use native.Mathlib.Omega.{arith}
 use lib.ListN.{length, drop, length-drop}
 use lib.Dec.{eqb, leb}
-use borrow.Author.Tests.{eq-eqb, ne_eqb, le-leb, lt-leb, leb-true, leb-false}
+use borrow.Author.Tests.{eq-eqb, ne_eqb, leb-true}
 use Rattle.base.specs.Bytes.{u32_at}
-use Rattle.base.proofs.Tests.{by_test, and_left, and_right}
+use Rattle.base.proofs.Tests.{and_left, and_right}
 use Rattle.wire.specs.Row.{type_of, value_of, is_row, tlvs}
 use Rattle.wire.specs.Order.{good}
 use Rattle.wire.specs.Answers.{tlv_of, Tells}
 use Rattle.wire.specs.declared.row.Header.{Header}
-use Rattle.wire.proofs.Rows.{tlvs_end, value-length, value-number, value-first}
+use Rattle.wire.proofs.Rows.{tlvs_end, value-length, value-number}
 use Rattle.wire.proofs.Good.{good-row}
 use Rattle.model.specs.Figures.{usual_interval, data_limit}
 use Rattle.model.specs.Table.{Entry}
@@ -27,17 +27,6 @@ use Rattle.table.proofs.Tables.{look-stands, look_gap, view-each}
 
 module _ (s : List ℕ) (at : ℕ) (h : Header) (k : Tells s at h) where
   module _ (endpoint : ℕ) where
-    pub other-kind : ¬ (h.kind ≡ 9) → is_keep_alive endpoint (tlv_of s at h) ≡ false
-    other-kind n = rw (sym k.kind, ne_eqb h.kind 9 n)
-
-    pub too_short : h.kind ≡ 9 → h.len < 8 → is_keep_alive endpoint (tlv_of s at h) ≡ false
-    too_short e l = rw (sym k.kind, eq-eqb h.kind 9 e, value-length s at h k, lt-leb 8 h.len l)
-
-    pub keeps_alive : h.kind ≡ 9 → 8 ≤ h.len → (n : ℕ) → n ≡ u32_at s h.start → is_keep_alive endpoint (tlv_of s at h) ≡ eqb n endpoint
-    keeps_alive e l n q =
-        let r : u32_at (value_of (tlv_of s at h)) 0 ≡ n = value-first s at h k (omega arith) ∙ sym q in
-        rw (sym k.kind, eq-eqb h.kind 9 e, value-length s at h k, le-leb 8 h.len l) (ap (λ (x : ℕ). eqb x endpoint) r)
-
     pub long_enough : {b : Bool} → b ≡ is_keep_alive endpoint (tlv_of s at h) → b ≡ true → 8 ≤ h.len
     long_enough e t =
         let q : eqb (type_of (tlv_of s at h)) 9 && leb 8 (length (value_of (tlv_of s at h))) ≡ true = and_left _ _ (sym e ∙ t) in
@@ -52,9 +41,6 @@ module _ (s : List ℕ) (endpoint other at : ℕ) where
   module _ (h : Header) (k : Tells s at h) {b : Bool} (e : b ≡ is_keep_alive endpoint (tlv_of s at h)) where
     pub for_here : b ≡ true → interval_for endpoint other (tlvs (drop at s)) ≡ u32_at s (h.start + 4)
     for_here t = ap (interval_for endpoint other) k.left ∙ rw (sym e ∙ t) (value-number s at h k 4 (long_enough s at h k endpoint e t))
-
-    pub for_on : b ≡ false → interval_for endpoint other (tlvs (drop at s)) ≡ interval_for endpoint other (tlvs (drop h.next s))
-    for_on t = ap (interval_for endpoint other) k.left ∙ rw (sym e ∙ t)
 
 -- the endpoint's own, else that for all endpoints
 pub interval-is : (s : List ℕ) (endpoint all : ℕ) → all ≡ interval_for all_endpoints usual_interval (tlvs s) → interval_for endpoint all (tlvs s) ≡ interval_in s endpoint
@@ -77,20 +63,6 @@ module _ (t : Table) (m : List ℕ) (k : Kept t m) (i : ℕ) where
     pub interval_missing : Gap t p.node i → interval_of (view t m) p ≡ usual_interval
     unfolding interval_of
     interval_missing g = rw (look_gap t k.arranged p.node i m g)
-
--- ---- silence
-
-module _ (interval silence : ℕ) where
-  pub never-silent : interval ≡ 0 → silent_for interval silence ≡ false
-  never-silent e = rw (eq-eqb interval 0 e)
-
-  -- without the product of the silence
-  pub silent_by : ¬ (interval ≡ 0) → leb ((21 * interval + 9) / 10) silence ≡ silent_for interval silence
-  silent_by n =
-      rw (ne_eqb interval 0 n)
-      (by_test (leb (21 * interval) (10 * silence))
-      (λ e. let l : 21 * interval ≤ 10 * silence = leb-true (21 * interval) (10 * silence) e in rw e (le-leb ((21 * interval + 9) / 10) silence (omega arith)))
-      (λ e. let l : 10 * silence < 21 * interval = leb-false (21 * interval) (10 * silence) e in rw e (lt-leb ((21 * interval + 9) / 10) silence (omega arith))))
 
 module _ (clock endpoint : ℕ) (t : List Entry) (p : ModelPeer) where
   pub goes_other : ¬ (p.ours ≡ endpoint) → goes clock endpoint t p ≡ false

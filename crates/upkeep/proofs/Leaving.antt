@@ -4,7 +4,8 @@ use mathlib.Core.Bool.{Bool, true, false, not}
 use mathlib.Core.List.{List, [], ◌∷◌, map}
 use Prim.Native.Nat.{ℕ, ◌+◌, ◌-◌, ◌≤◌, ◌<◌}
 use native.Mathlib.Omega.{arith}
-use lib.ListN.{length, get_or, set, replicate, length-set}
+use lib.ListN.{length, get_or, take}
+use lib.Seq.{get_or-take, length-take-le}
 use Rattle.base.specs.Lists.{any, keep, keep_by}
 use Rattle.base.proofs.Tests.{by_test}
 use Rattle.base.proofs.Lists.{all_more}
@@ -21,7 +22,7 @@ use Rattle.table.specs.View.{seen, view, Read, Stands, AllGood}
 use Rattle.table.specs.declared.Entry.{Entry as Meta}
 use Rattle.reach.specs.Marks.{Readable}
 use Rattle.reach.proofs.Nodes.{fits-readable}
-use Rattle.base.proofs.Marks.{not_at, none-set, keep_by_places, any_places, Filled, fill_start, fill_set}
+use Rattle.base.proofs.Marks.{not_at, keep_by_places, any_places, Filled}
 use Rattle.node.specs.View.{peer_of, peers_of, state_of, PeersRep, Rep, Held}
 use Rattle.node.specs.declared.State.{State}
 use Rattle.node.specs.declared.peers.Peer.{Peer}
@@ -73,13 +74,6 @@ abbrev pub Marked : ℕ → ℕ → List Entry → List Peer → ℕ → List Bo
 Marked clock endpoint t l i marks = (length marks ≡ most_peers) × Filled (λ k. goes clock endpoint t (peer_of (get_or l k nobody))) (λ k. false) i marks
 
 module _ (clock endpoint : ℕ) (t : List Entry) (l : List Peer) where
-  pub mark_none : Marked clock endpoint t l 0 (replicate 16 false)
-  mark_none = (refl, fill_start _ _ _ (none-set 16))
-
-  pub mark_next : (i : ℕ) (marks : List Bool) (b : Bool) → Marked clock endpoint t l i marks → i < most_peers → b ≡ goes clock endpoint t (peer_of (get_or l i nobody)) → Marked clock endpoint t l (i + 1) (set marks i b)
-  mark_next i marks b k h e =
-      (length-set marks i b ∙ k.0, fill_set (λ j. goes clock endpoint t (peer_of (get_or l j nobody))) (λ j. false) i marks k.1 b (set marks i b) (rw k.0 h) refl e)
-
   pub mark_all : (i : ℕ) (marks : List Bool) → i ≤ length l → Marked clock endpoint t l i marks → Scanned clock endpoint i t l marks
   mark_all i marks h k =
       record {
@@ -90,22 +84,32 @@ module _ (clock endpoint : ℕ) (t : List Entry) (l : List Peer) where
 
 -- the peers of the state: what the scan asks of them, and what its marks say
 module _ (clock : ℕ) (s : State) (m : List ℕ) (k : Rep s m) where
-  pub lent_midway : Midway clock (state_of s m) → Lent clock s.peers.count s.table m s.peers.list
+  abbrev lent : List Peer
+  lent = take s.peers.count s.peers.list
+
+  lent-length : length lent ≡ s.peers.count
+  lent-length = length-take-le s.peers.count s.peers.list (rw k.peers.list k.peers.few)
+
+  lent_at : (j : ℕ) (p : Peer) → j < s.peers.count → get_or lent j p ≡ get_or s.peers.list j p
+  lent_at j p h = get_or-take s.peers.count s.peers.list j p h
+
+  pub lent_midway : Midway clock (state_of s m) → Lent clock (length lent) s.table m lent
   lent_midway mid =
       record {
         table = k.table;
         fine = good-midway clock s m mid;
-        few = k.peers.few;
-        here = rw k.peers.list k.peers.few;
-        heard = λ i h p. contact-midway clock s m mid i p k.peers h;
+        few = rw lent-length k.peers.few;
+        here = omega arith;
+        heard = λ i h p. let l : i < s.peers.count = rw lent-length at h in rw (lent_at i p l) (contact-midway clock s m mid i p k.peers l);
       }
 
-  pub scanned_going : (endpoint : ℕ) (marks : List Bool) → Scanned clock endpoint s.peers.count (view s.table m) s.peers.list marks → Going clock endpoint (state_of s m) marks
+  pub scanned_going : (endpoint : ℕ) (marks : List Bool) → Scanned clock endpoint (length lent) (view s.table m) lent marks → Going clock endpoint (state_of s m) marks
   unfolding state_of
   scanned_going endpoint marks f =
       let l : length (peers_of s.peers) ≡ s.peers.count = peers-length s.peers k.peers in
-      let at : (j : ℕ) → j < s.peers.count → (p : ModelPeer) → peer_of (get_or s.peers.list j nobody) ≡ get_or (peers_of s.peers) j p =
-      λ j h p. peer-at s.peers j nobody k.peers h ∙ get_d_any (peers_of s.peers) j no_peer p (rw l h) in
+      let n : length lent ≡ s.peers.count = lent-length in
+      let at : (j : ℕ) → j < s.peers.count → (p : ModelPeer) → peer_of (get_or lent j nobody) ≡ get_or (peers_of s.peers) j p =
+      λ j h p. ap peer_of (lent_at j nobody h) ∙ peer-at s.peers j nobody k.peers h ∙ get_d_any (peers_of s.peers) j no_peer p (rw l h) in
       record {
         wide = f.wide;
         each = λ j h p. f.each j (omega arith) nobody ∙ ap (goes clock endpoint (view s.table m)) (at j (omega arith) p);

@@ -5,6 +5,7 @@ ghost use Rattle.wire.specs.Row.{is_row, tlvs};
 ghost use Rattle.wire.specs.Order.{ascending, without};
 ghost use Rattle.model.specs.Figures.{most_endpoints, publish_limit, usual_interval, most_keep_alive, keep_alive_bytes, last_reading};
 ghost use Rattle.model.specs.State.{own_data};
+ghost use Rattle.model.specs.Numbers.{number_of};
 ghost use Rattle.model.specs.Refusals.{first_of};
 ghost use Rattle.model.specs.KeepAlive.{keep_alive_tlv, without_keep_alive, with_keep_alive, with_choice, chosen, no_room};
 ghost use Rattle.model.specs.Invariant.{Midway};
@@ -13,23 +14,24 @@ ghost use Rattle.upkeep.specs.Choice.{KeepAliveStands};
 
 use message::keep_alive_tlv;
 use model::figures::{KEEP_ALIVE_BYTES, MOST_ENDPOINTS, PUBLISH_LIMIT, USUAL_INTERVAL};
-use model::numbers::DATA_FULL;
+use model::numbers::Refusal;
 use model::sequence::advanced;
-use node::State;
 use node::endpoints::{endpoint_at, with_endpoint};
 use node::publish::{Span, own_data, own_seq, publish_swap};
 use node::settle::settle;
+use node::{Endpoint, State};
 use reach::reach;
-use wire::order::{Standing, find_tlv};
+use wire::order::find_tlv;
 
 // How many bytes say an interval in our data: none say the usual one.
 fn size_of(interval: u32) -> usize
     ensures { result ≡ cond (eqb interval usual_interval) 0 keep_alive_bytes }
 {
     if interval == USUAL_INTERVAL {
-        return 0;
+        0
+    } else {
+        KEEP_ALIVE_BYTES
     }
-    KEEP_ALIVE_BYTES
 }
 
 // Where the endpoint's Keep-Alive TLV stands in our data, which have no other than that of the interval `keep`; no bytes if there is none.
@@ -37,14 +39,12 @@ fn standing(ours: &[u8], endpoint: u32, keep: u32) -> Span
     requires { (is_row ours.now ≡ true) × ((ascending (tlvs ours.now) ≡ true) × (without_keep_alive endpoint ours.now ≡ join_all (without (keep_alive_tlv endpoint keep) (tlvs ours.now)))) }
     ensures { KeepAliveStands endpoint ours.now result }
 {
-    let tlv = keep_alive_tlv(endpoint, keep);
-    let found = find_tlv(ours, &tlv);
-    match found {
-        Standing::At(start) => Span {
+    match find_tlv(ours, &keep_alive_tlv(endpoint, keep)) {
+        Some(start) => Span {
             start,
             size: KEEP_ALIVE_BYTES,
         },
-        Standing::Nowhere => Span { start: 0, size: 0 },
+        None => Span { start: 0, size: 0 },
     }
 }
 
@@ -59,15 +59,21 @@ fn length_with(s: State, mem: &[u8], clock: u64, endpoint: u32, interval: u32) -
     ours.len() - old.size + size_of(interval)
 }
 
-// 9 if our data have no room for the TLV, else 0.
-pub fn refusal(s: State, mem: &[u8], clock: u64, endpoint: u32, interval: u32) -> u32
+// Refused if our data have no room for the TLV.
+pub fn refusal(
+    s: State,
+    mem: &[u8],
+    clock: u64,
+    endpoint: u32,
+    interval: u32,
+) -> Result<(), Refusal>
     requires { Rep s mem.now × (Midway clock (state_of s mem.now) × ((1 ≤ endpoint) × (endpoint ≤ most_endpoints))) }
-    ensures { result ≡ first_of (no_room endpoint interval (state_of s mem.now) ∷ []) }
+    ensures { number_of result ≡ first_of (no_room endpoint interval (state_of s mem.now) ∷ []) }
 {
     if PUBLISH_LIMIT < length_with(s, mem, clock, endpoint, interval) {
-        return DATA_FULL;
+        return Err(Refusal::DataFull);
     }
-    0
+    Ok(())
 }
 
 // The interval, and our data with it published, if it is another.
@@ -84,8 +90,10 @@ fn with_choice(s: State, mem: &mut [u8], clock: u64, endpoint: u32, interval: u3
     let tlv = keep_alive_tlv(endpoint, interval);
     let n = size_of(interval);
     let r = publish_swap(s, mem, clock, seq, old.start, old.size, &tlv[..n]);
-    let mut f = e;
-    f.keep = interval;
+    let f = Endpoint {
+        keep: interval,
+        ..e
+    };
     with_endpoint(r, endpoint, f)
 }
 

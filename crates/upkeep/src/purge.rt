@@ -18,8 +18,10 @@ pub fn purge(s: State, mem: &[u8], clock: u64, randoms: [u32; MOST_ENDPOINTS]) -
 {
     let found = reach(s.table, mem, s.own, clock);
     let marks = found.marks;
-    let mut t = s;
-    t.table = table::purge(s.table, marks);
+    let t = State {
+        table: table::purge(s.table, marks),
+        ..s
+    };
     let again = reach(t.table, mem, t.own, clock);
     settle(t, clock, randoms, again)
 }

@@ -1,5 +1,5 @@
 // Peers that have been silent too long, and our own age.
-ghost use Rattle.std.specs.Prelude.{◌≡◌, true, ◌||◌, ◌≤◌, ◌<◌, leb};
+ghost use Rattle.std.specs.Prelude.{◌≡◌, true, ◌||◌, ◌≤◌, ◌<◌, length, leb};
 ghost use Rattle.base.specs.Lists.{any};
 ghost use Rattle.wire.specs.Row.{is_row, tlvs};
 ghost use Rattle.wire.specs.Answers.{tlv_of, Tells};
@@ -10,7 +10,7 @@ ghost use Rattle.model.specs.Tick.{is_keep_alive, interval_for, interval_in, int
 ghost use Rattle.model.specs.Invariant.{Midway};
 ghost use Rattle.table.specs.View.{view, Kept, AllGood};
 ghost use Rattle.node.specs.View.{peer_of, state_of, Rep, Published};
-ghost use Rattle.upkeep.specs.Ticked.{Lent, Scanned, Going};
+ghost use Rattle.upkeep.specs.Ticked.{Lent, Scanned};
 
 use base::big_endian::read_u32;
 use model::figures::{MOST_PEERS, REFRESH_AGE, USUAL_INTERVAL};
@@ -18,24 +18,20 @@ use node::State;
 use node::leaving::drop_peers;
 use node::peers::Peer;
 use node::publish::own_place;
-use table::{Found, Table, age_at, data_of, find, meta_at};
-use wire::row::{Header, tlv_at};
+use table::{Table, age_at, data_of, find, meta_at};
+use wire::kind::Kind;
+use wire::row::Header;
+use wire::tlvs::tlvs;
 
 // A Keep-Alive TLV for this endpoint stands for every endpoint without one of its own.
 const ALL_ENDPOINTS: u32 = 0;
 
 // The TLV is a Keep-Alive TLV for the endpoint.
-fn is_keep_alive(nd: &[u8], at: usize, h: Header, endpoint: u32) -> bool
-    requires { Tells nd.now at h }
-    ensures { result ≡ is_keep_alive endpoint (tlv_of nd.now at h) }
+fn is_keep_alive(nd: &[u8], h: Header, endpoint: u32) -> bool
+    requires { Tells nd.now h.at h }
+    ensures { result ≡ is_keep_alive endpoint (tlv_of nd.now h.at h) }
 {
-    if h.kind != 9 {
-        return false;
-    }
-    if h.len < 8 {
-        return false;
-    }
-    read_u32(nd, h.start) == endpoint
+    h.kind == Kind::KeepAlive as u16 && 8 <= h.len && read_u32(nd, h.start) == endpoint
 }
 
 // What the first Keep-Alive TLV for the endpoint says, wherever it stands in the data; `other` if there is none.
@@ -43,13 +39,10 @@ fn interval_for(nd: &[u8], endpoint: u32, other: u32) -> u32
     requires { is_row nd.now ≡ true }
     ensures { result ≡ interval_for endpoint other (tlvs nd.now) }
 {
-    let mut at = 0;
-    while at < nd.len() {
-        let h = tlv_at(nd, at);
-        if is_keep_alive(nd, at, h, endpoint) {
+    for h in tlvs(nd) {
+        if is_keep_alive(nd, h, endpoint) {
             return read_u32(nd, h.start + 4);
         }
-        at = h.next;
     }
     other
 }
@@ -68,10 +61,7 @@ fn interval_in(nd: &[u8], endpoint: u32) -> u32
 fn is_silent(interval: u32, silence: u64) -> bool
     ensures { result ≡ silent_for interval silence }
 {
-    if interval == 0 {
-        return false;
-    }
-    (21 * (interval as u64) + 9) / 10 <= silence
+    interval != 0 && (21 * u64::from(interval)).div_ceil(10) <= silence
 }
 
 // The interval of a peer: from its node's data, in reach or not.
@@ -79,10 +69,9 @@ fn interval_of(t: Table, mem: &[u8], p: Peer) -> u32
     requires { Kept t mem.now × AllGood (view t mem.now) }
     ensures { result ≡ interval_of (view t mem.now) (peer_of p) }
 {
-    let found = find(t, p.node);
-    match found {
-        Found::At(i) => interval_in(data_of(t, mem, i), p.theirs),
-        Found::Missing(_) => USUAL_INTERVAL,
+    match find(t, p.node) {
+        Ok(i) => interval_in(data_of(t, mem, i), p.theirs),
+        Err(_) => USUAL_INTERVAL,
     }
 }
 
@@ -91,70 +80,19 @@ fn is_going(t: Table, mem: &[u8], clock: u64, endpoint: u32, p: Peer) -> bool
     requires { Kept t mem.now × (AllGood (view t mem.now) × (p.contact ≤ clock)) }
     ensures { result ≡ goes clock endpoint (view t mem.now) (peer_of p) }
 {
-    if p.ours != endpoint {
-        return false;
-    }
-    is_silent(interval_of(t, mem, p), clock - p.contact)
+    p.ours == endpoint && is_silent(interval_of(t, mem, p), clock - p.contact)
 }
 
-// A mark for each of the first `count` peers that goes: the scan of the lent peers.
-fn scan(
-    peers: &[Peer],
-    count: usize,
-    t: Table,
-    mem: &[u8],
-    clock: u64,
-    endpoint: u32,
-) -> [bool; MOST_PEERS]
-    requires { Lent clock count t mem.now peers.now }
-    ensures { Scanned clock endpoint count (view t mem.now) peers.now result }
+// A mark for each of the lent peers that goes.
+fn scan(peers: &[Peer], t: Table, mem: &[u8], clock: u64, endpoint: u32) -> [bool; MOST_PEERS]
+    requires { Lent clock (length peers.now) t mem.now peers.now }
+    ensures { Scanned clock endpoint (length peers.now) (view t mem.now) peers.now result }
 {
     let mut marks = [false; MOST_PEERS];
-    let mut i = 0;
-    while i < count {
-        marks[i] = is_going(t, mem, clock, endpoint, peers[i]);
-        i += 1;
+    for (i, p) in peers.iter().enumerate() {
+        marks[i] = is_going(t, mem, clock, endpoint, *p);
     }
     marks
-}
-
-// The same of a list by value, which is lent for the scan.
-fn marks_of(
-    list: [Peer; MOST_PEERS],
-    count: usize,
-    t: Table,
-    mem: &[u8],
-    clock: u64,
-    endpoint: u32,
-) -> [bool; MOST_PEERS]
-    requires { Lent clock count t mem.now list }
-    ensures { Scanned clock endpoint count (view t mem.now) list result }
-{
-    scan(&list, count, t, mem, clock, endpoint)
-}
-
-// A mark for each peer that goes.
-fn going(s: State, mem: &[u8], clock: u64, endpoint: u32) -> [bool; MOST_PEERS]
-    requires { Rep s mem.now × Midway clock (state_of s mem.now) }
-    ensures { Going clock endpoint (state_of s mem.now) result }
-{
-    let peers = s.peers;
-    let list = peers.list;
-    marks_of(list, peers.count, s.table, mem, clock, endpoint)
-}
-
-// Some mark is set.
-fn is_some(marks: [bool; MOST_PEERS]) -> bool
-    ensures { result ≡ any (λ b. b) marks }
-{
-    let mut i = 0;
-    while i < MOST_PEERS {
-        if marks[i] {
-            return true;
-        }
-        i += 1;
-    }
-    false
 }
 
 // Our own age is at the limit at which we publish again.
@@ -172,10 +110,7 @@ fn is_republishing(s: State, mem: &[u8], clock: u64, marks: [bool; MOST_PEERS]) 
     requires { Rep s mem.now × (Midway clock (state_of s mem.now) × (clock ≤ last_reading)) }
     ensures { result ≡ any (λ b. b) marks || leb refresh_age (age_at clock (own_entry (state_of s mem.now))) }
 {
-    if is_some(marks) {
-        return true;
-    }
-    is_stale(s, mem, clock)
+    marks.iter().any(|m| *m) || is_stale(s, mem, clock)
 }
 
 // Silent peers of the endpoint go with their Peer TLVs; published once if any went, or if our age asks for it.
@@ -183,7 +118,8 @@ pub fn drop_silent(s: State, mem: &mut [u8], clock: u64, endpoint: u32) -> State
     requires { Rep s mem.old × (Midway clock (state_of s mem.old) × (clock ≤ last_reading)) }
     ensures { Published (drop_silent clock endpoint (state_of s mem.old)) s mem.old result mem.new }
 {
-    let marks = going(s, mem, clock, endpoint);
+    let peers = &s.peers.list[..s.peers.count];
+    let marks = scan(peers, s.table, mem, clock, endpoint);
     if !is_republishing(s, mem, clock, marks) {
         return s;
     }

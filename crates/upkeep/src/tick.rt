@@ -26,8 +26,7 @@ fn announce(room: &mut [u8], own: u32, endpoint: u32, digest: [u8; 16])
     ensures { room.new ≡ written room.old 0 (endpoint_tlv own endpoint ++ network_tlv digest) }
 {
     put_endpoint(room, 0, own, endpoint);
-    let d = network_tlv(digest);
-    store(room, 12, &d);
+    store(room, 12, &network_tlv(digest));
 }
 
 // Silent peers gone, and the digest compared.
@@ -53,17 +52,17 @@ fn event_of(e: Endpoint, clock: u64, random: u32) -> Event
 {
     let t = e.trickle;
     if !t.is_idle(clock) {
-        return t.tick(clock, random);
-    }
-    if clock < e.quiet + (e.keep as u64) {
-        return Event {
+        t.tick(clock, random)
+    } else if clock < e.quiet + u64::from(e.keep) {
+        Event {
             sends: false,
             next: t,
-        };
-    }
-    Event {
-        sends: true,
-        next: Trickle::fresh(clock, t.interval, random),
+        }
+    } else {
+        Event {
+            sends: true,
+            next: Trickle::fresh(clock, t.interval, random),
+        }
     }
 }
 
@@ -72,14 +71,16 @@ fn after_event(e: Endpoint, v: Event, clock: u64, random: u32) -> Endpoint
     requires { clock ≤ last_reading }
     ensures { endpoint_of result ≡ after_event clock random (event_of v) (endpoint_of e) }
 {
-    let next = v.next;
-    let mut r = e;
-    r.trickle = next;
-    if !v.sends {
-        return r;
+    let quiet = if v.sends {
+        quiet_from(clock, random)
+    } else {
+        e.quiet
+    };
+    Endpoint {
+        trickle: v.next,
+        quiet,
+        ..e
     }
-    r.quiet = quiet_from(clock, random);
-    r
 }
 
 // At most one event on the endpoint, after silent peers have gone and the digest was compared.
@@ -96,8 +97,7 @@ pub fn tick(
 {
     let b = cleared(s, mem, clock, endpoint, randoms);
     let e = endpoint_at(b, endpoint);
-    let k = (endpoint - 1) as usize;
-    let random = randoms[k];
+    let random = randoms[(endpoint - 1) as usize];
     let v = event_of(e, clock, random);
     let r = with_endpoint(b, endpoint, after_event(e, v, clock, random));
     if !v.sends {

@@ -1,12 +1,8 @@
-use mathlib.Core.Path.{ap, ◌∙◌}
-use Rattle.base.specs.Bytes.{same}
-use Rattle.decide.proofs.Cases.{carries_some, carries_none}
+use Rattle.std.proofs.Common.{◌∙◌, sym, refl, eqb-true, length, arith}
+use Rattle.decide.proofs.Cases.{compared, carries_none}
 use Rattle.decide.proofs.is_carrying.Goals as goal
 
-pub returns-then-bytes-gt0 : goal.returns-then-bytes-gt0
-returns-then-bytes-gt0 c = carries_some c.args.hash.now c.args.bytes.now c.if-bytes-gt0.true
-
-pub returns : goal.returns
-returns c =
-    c.is_same.ensures ∙ ap (same c.args.hash.now) c.hash16-nothing.ensures
-    ∙ carries_none c.args.hash.now c.args.bytes.now c.if-bytes-gt0.false
+pub returns-else-not-is_empty : goal.returns-else-not-is_empty
+returns-else-not-is_empty c =
+    compared c.eq.ensures refl (c.as_slice.ensures ∙ c.hash16.ensures)
+    ∙ carries_none c.args.hash.now c.args.bytes.now (omega (arith, eqb-true (length c.args.bytes.now) 0 (sym c.is_empty.ensures ∙ c.if-not-is_empty.false)))

@@ -1,13 +1,7 @@
-use mathlib.Core.Bool.{not}
-use Rattle.decide.proofs.Cases.{fine-not, fine_if}
-use mathlib.Core.Path.{ap}
+use Rattle.std.proofs.Common.{◌∙◌, sym, refl}
+use Rattle.decide.proofs.Cases.{compared}
 use Rattle.decide.proofs.is_fine.Goals as goal
 
-pub returns-then-not-is_good : goal.returns-then-not-is_good
-returns-then-not-is_good c =
-    fine-not c.args.hash.now c.args.bytes.now c.is_good.result c.is_good.ensures (ap not c.if-not-is_good.true)
-
-pub returns : goal.returns
-returns c =
-    fine_if c.args.hash.now c.args.bytes.now c.is_good.result c.is_good.ensures (ap not c.if-not-is_good.false)
-    c.is_same.result c.hash16-digest.result c.hash16-digest.ensures c.is_same.ensures
+pub returns-then-is_good : goal.returns-then-is_good
+returns-then-is_good c =
+    rw (sym c.is_good.ensures ∙ c.if-is_good.true) (compared c.eq.ensures (c.as_slice.ensures ∙ c.hash16.ensures) refl)

@@ -1,25 +1,16 @@
-use mathlib.Core.Path.{refl, sym, ◌∙◌}
-use native.Mathlib.Omega.{arith}
-use Rattle.node.proofs.Stripping.{named_end, named_unmarked, named_here, named_other}
+use Rattle.std.proofs.Common.{rules, tests, ◌∙◌, take, Bool, ◌&&◌}
+use Rattle.std.proofs.lemmas.Iterator.{YieldsList-from_slice, YieldsList-from_zip}
+use Rattle.std.proofs.lemmas.Iterator.Search.{any_from_yields_List}
+use Rattle.base.specs.Bytes.{same}
+use Rattle.base.proofs.Library.{listed_any_marked}
+use Rattle.model.specs.State.{peer_tlv}
+use Rattle.node.specs.View.{peer_of, peers_of}
+use Rattle.node.specs.declared.peers.Peer.{Peer}
 use Rattle.node.proofs.leaving.is_marked_link.Goals as goal
-use Rattle.node.proofs.leaving.is_marked_link.Goals.{then-marks-i+else-is_link, else-marks-i}
-
-pub loop-i-init : goal.loop-i-init
-loop-i-init c = (omega arith, refl)
-
-pub returns-then-is_link : goal.returns-then-is_link
-returns-then-is_link c =
-    sym (c.loop-i.invariant.1 ∙ named_here c.args.marks c.args.p c.requires c.args.tlv.now c.loop-i.i (omega arith) _ c.is_link.ensures c.if-marks-i.true c.if-is_link.true)
-
-pub loop-i-preserved : goal.loop-i-preserved
-loop-i-preserved c = (
-  omega arith,
-  c.loop-i.invariant.1 ∙ elim c.if-marks-i.branch [
-    | then-marks-i+else-is_link b ↦ named_other c.args.marks c.args.p c.requires c.args.tlv.now c.loop-i.i (omega arith) _ b.is_link.ensures b.if-marks-i.true b.if-is_link.false
-    | else-marks-i b ↦ named_unmarked c.args.marks c.args.p c.requires c.args.tlv.now c.loop-i.i (omega arith) b.if-marks-i.false
-  ],
-)
 
 pub returns : goal.returns
+unfolding peers_of
 returns c =
-    sym (c.loop-i.invariant.1 ∙ named_end c.args.marks c.args.p c.requires c.args.tlv.now c.loop-i.i (omega arith))
+    any_from_yields_List (λ (x : Bool × Peer). x.0 && same (peer_tlv (peer_of x.1)) c.args.tlv.now) c.any.new.self _ _ c.any.ensures.ran
+    (YieldsList-from_zip (YieldsList-from_slice c.args.marks cc) (YieldsList-from_slice (take c.args.p.count c.args.p.list) cc)) (λ x b q k. search (rules, tests))
+    ∙ listed_any_marked (λ q. same (peer_tlv q) c.args.tlv.now) peer_of c.args.marks (take c.args.p.count c.args.p.list)

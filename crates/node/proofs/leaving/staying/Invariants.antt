@@ -1,12 +1,9 @@
 use mathlib.Core.Path.{◌≡◌}
-use Prim.Native.Nat.{◌-◌, ◌≤◌}
+use Prim.Native.Nat.{◌≤◌}
 use lib.ListN.{length}
 use Rattle.model.specs.Figures.{most_peers}
 use Rattle.node.proofs.Stripping.{Stayed}
 use Rattle.node.proofs.leaving.staying.Given as goal
 
 abbrev pub invariant-loop-i : goal.invariant-loop-i
-invariant-loop-i l = (l.j ≤ l.i) × (l.i ≤ l.count) × (length l.r.list ≡ most_peers) × Stayed l.marks l.p.list l.i l.r.list l.j
-
-abbrev pub decreases-loop-i : goal.decreases-loop-i
-decreases-loop-i l = l.count - l.i
+invariant-loop-i l = (l.j ≤ l.i) × (length l.r.list ≡ most_peers) × Stayed l.marks l.p.list l.i l.r.list l.j

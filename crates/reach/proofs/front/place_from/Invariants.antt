@@ -1,11 +1,7 @@
--- The loop's invariant: the TLVs from `at` up to i are below the type, and a row goes on at i.
-use Prim.Native.Nat.{◌-◌}
-use lib.ListN.{length}
+-- The loop's invariant: the TLVs from `at` up to the iterator's place are below the type, and a row goes on there.
+use mathlib.Core.Path.{◌≡◌}
 use Rattle.reach.specs.Parts.{Passed}
 use Rattle.reach.proofs.front.place_from.Given as goal
 
-abbrev pub invariant-loop-i : goal.invariant-loop-i
-invariant-loop-i l = Passed l.d l.at l.least l.i
-
-abbrev pub decreases-loop-i : goal.decreases-loop-i
-decreases-loop-i l = length l.d - l.i
+abbrev pub invariant-loop-h : goal.invariant-loop-h
+invariant-loop-h l = (l.h-iterator.row.now ≡ l.d) × Passed l.d l.at l.least l.h-iterator.at

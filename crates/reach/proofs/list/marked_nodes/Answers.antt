@@ -1,39 +1,26 @@
-use borrow.Author.Rules.{rules}
-use mathlib.Core.Path.{refl}
-use Prim.Native.Nat.{◌<◌}
 use native.Mathlib.Omega.{arith}
-use lib.ListN.{length}
-use Rattle.table.specs.View.{live}
+use mathlib.Core.Path.{refl}
+use mathlib.Core.Logic.{inl, inr, ⊎_elim}
 use Rattle.table.proofs.Tables.{live-length}
-use Rattle.reach.proofs.Digests.{read_live}
 use Rattle.reach.proofs.Listing.{list-start, list-stay, list_on, list_end}
 use Rattle.reach.proofs.list.marked_nodes.Goals as goal
-use Rattle.reach.proofs.list.marked_nodes.Goals.{then-marks-i, else-marks-i}
 
-pub loop-i-init : goal.loop-i-init
-loop-i-init c = (omega arith, list-start _ _)
+pub loop-e-init : goal.loop-e-init
+loop-e-init c =
+    rw (c.into_iter-e-iterator.ensures.into_iter_gives, c.zip-e-items.ensures.first, c.iter.ensures.rest, c.zip-e-items.ensures.second.0)
+    (list-start _ _ _ (omega (arith, live-length c.args.t c.requires, c.requires.most)) refl)
 
-pub meta_at-e-requires : goal.meta_at-e-requires
-meta_at-e-requires c = (c.requires, search rules)
+pub loop-e-preserved-then-marked : goal.loop-e-preserved-then-marked
+loop-e-preserved-then-marked c =
+    let s = c.in-Some.ensures.steps in
+    list_on _ _ _ c.in-Some.e.now _ c.loop-e.list c.loop-e.n (rw (s.0, s.1) at c.loop-e.invariant) c.if-marked.true
 
-pub offset_bounds-list-n : goal.offset_bounds-list-n
-offset_bounds-list-n c =
-    omega (arith, c.loop-i.invariant.1.most, c.requires.most)
-
-pub bounds-list-n : goal.bounds-list-n
-bounds-list-n c =
-    omega (arith, c.loop-i.invariant.1.most, c.requires.most)
-
-pub loop-i-preserved : goal.loop-i-preserved
-loop-i-preserved c =
-    let l : c.loop-i.i < length (live c.args.t) = rw (live-length c.args.t c.requires) (omega arith) in (
-      omega arith,
-      elim c.if-marks-i.branch [
-        | then-marks-i b ↦ rw b.n-is (list_on c.args.marks (live c.args.t) c.loop-i.list c.loop-i.n c.loop-i.i c.loop-i.invariant.1 l b.meta_at-e.result c.if-marks-i.list b.if-marks-i.true (omega (arith, c.requires.most)) (read_live c.args.t c.loop-i.i b.meta_at-e.result (omega arith) b.meta_at-e.ensures) b.list-is)
-        | else-marks-i b ↦ rw (b.list-is, b.n-is) (list-stay c.args.marks (live c.args.t) c.loop-i.list c.loop-i.n c.loop-i.i c.loop-i.invariant.1 l b.if-marks-i.false)
-      ],
-    )
+pub loop-e-preserved : goal.loop-e-preserved
+loop-e-preserved c =
+    let s = c.in-Some.ensures.steps in
+    list-stay _ _ _ c.in-Some.e.now _ c.loop-e.list c.loop-e.n (rw (s.0, s.1) at c.loop-e.invariant) c.if-marked.false
 
 pub returns : goal.returns
 returns c =
-    list_end c.args.marks (live c.args.t) c.loop-i.list c.loop-i.n c.loop-i.i c.loop-i.invariant.1 c.args.t refl (rw (live-length c.args.t c.requires) (omega arith)) (omega (arith, c.requires.most))
+    let h = ⊎_elim (λ x. inl x.1.0) (λ x. inr x.1.0) c.in-None.ensures.steps in
+    list_end _ c.args.marks c.args.t _ _ c.loop-e.list c.loop-e.n c.loop-e.invariant h refl

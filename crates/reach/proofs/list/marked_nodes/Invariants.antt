@@ -1,11 +1,8 @@
--- The loop's invariant: the marked entries below place `i` are listed.
-use Prim.Native.Nat.{◌-◌, ◌≤◌}
-use Rattle.table.specs.View.{live}
-use Rattle.reach.proofs.Listing.{ListedBelow}
+use mathlib.Core.List.{map}
+use Rattle.base.specs.Lists.{keep_by}
+use Rattle.table.specs.View.{meta_id, live}
+use Rattle.reach.proofs.Listing.{ListedSo}
 use Rattle.reach.proofs.list.marked_nodes.Given as goal
 
-abbrev pub invariant-loop-i : goal.invariant-loop-i
-invariant-loop-i l = (l.i ≤ l.count) × ListedBelow l.marks (live l.t) l.list l.n l.i
-
-abbrev pub decreases-loop-i : goal.decreases-loop-i
-decreases-loop-i l = l.count - l.i
+abbrev pub invariant-loop-e : goal.invariant-loop-e
+invariant-loop-e l = ListedSo (map meta_id (keep_by l.fn.marks (live l.fn.t))) l.e-iterator.b.rest.now l.e-iterator.a.rest.now l.list l.n

@@ -1,21 +1,11 @@
-use borrow.Author.Rules.{rules}
-use native.Mathlib.Omega.{arith}
-use mathlib.Core.Path.{refl, sym, ap, ◌∙◌}
-use mathlib.Core.Bool.{not}
-use Rattle.base.proofs.Marks.{any_end, any_here, any_on}
+use Rattle.std.proofs.Common.{rules, tests, ap, ◌∙◌, not}
+use Rattle.std.proofs.lemmas.Iterator.{YieldsList-from_slice}
+use Rattle.std.proofs.lemmas.Iterator.Search.{any_from_yields_List}
+use Rattle.base.proofs.Library.{listed_any}
 use Rattle.reach.proofs.mark.is_empty.Goals as goal
-
-pub loop-i-init : goal.loop-i-init
-loop-i-init c = (omega arith, refl)
-
-pub returns-then-marks-i : goal.returns-then-marks-i
-returns-then-marks-i c =
-    sym (ap not (c.loop-i.invariant.1 ∙ any_here c.args.marks c.loop-i.i (search rules) c.if-marks-i.true))
-
-pub loop-i-preserved : goal.loop-i-preserved
-loop-i-preserved c =
-    (omega arith, c.loop-i.invariant.1 ∙ any_on c.args.marks c.loop-i.i (search rules) c.if-marks-i.false)
 
 pub returns : goal.returns
 returns c =
-    sym (ap not (c.loop-i.invariant.1 ∙ any_end c.args.marks c.loop-i.i (search rules)))
+    ap not
+    (any_from_yields_List (λ b. b) _ _ _ c.any.ensures.ran (YieldsList-from_slice c.args.marks cc) (λ x b q k. search (rules, tests))
+    ∙ listed_any (λ b. b) c.args.marks)

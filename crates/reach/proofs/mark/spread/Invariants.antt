@@ -1,11 +1,6 @@
-use Prim.Native.Nat.{◌-◌}
-use Rattle.model.specs.Figures.{most_nodes}
 use Rattle.table.specs.View.{view}
 use Rattle.reach.proofs.Waves.{Waving}
 use Rattle.reach.proofs.mark.spread.Given as goal
 
 abbrev pub invariant-loop-k : goal.invariant-loop-k
 invariant-loop-k l = Waving l.clock (view l.t l.mem) l.initial.w.met l.k l.w.met l.w.level
-
-abbrev pub decreases-loop-k : goal.decreases-loop-k
-decreases-loop-k l = most_nodes - l.k

@@ -1,24 +1,17 @@
 -- `well_formed` holds the length of the random numbers' array.
-use borrow.Author.Tests.{not-true, not-false}
-use Rattle.start.proofs.Resuming.{resume-refused, resume_ready, resume-readable, resume_done}
+use Rattle.start.proofs.Resuming.{resume_ready, resume-readable, resume_done}
 use Rattle.start.proofs.resume.resume.Goals as goal
-
-pub returns-then-not-loaded : goal.returns-then-not-loaded
-returns-then-not-loaded c =
-    resume-refused c.args.clock c.args.bytes.now c.args.randoms c.args.mem.now c.args.s c.load-loaded.result c.load-loaded.new.mem c.load-loaded.ensures (not-true _ c.if-not-loaded.true)
 
 pub republish-published-requires : goal.republish-published-requires
 republish-published-requires c =
-    resume_ready c.args.clock c.args.bytes.now c.args.randoms c.args.mem.now c.args.s c.load-loaded.result c.load-loaded.new.mem c.load-loaded.ensures
-    (not-false _ c.if-not-loaded.false) c.undigested-begun.result c.undigested-begun.ensures
+    resume_ready c.args.clock c.args.bytes.now c.args.randoms c.args.mem.now c.in_ok-loaded.loaded c.load.new.mem c.in_ok-loaded.ensures c.undigested-begun.result c.undigested-begun.ensures
 
 pub with_digest-requires : goal.with_digest-requires
 with_digest-requires c =
-    resume-readable c.args.clock c.args.bytes.now c.args.randoms c.args.mem.now c.args.s c.load-loaded.result c.load-loaded.new.mem c.load-loaded.ensures
-    (not-false _ c.if-not-loaded.false) c.undigested-begun.result c.undigested-begun.ensures c.requires.1 c.well_formed.1.1.1.1.0.1.0.1 c.republish-published.result c.republish-published.new.mem c.republish-published.ensures
+    resume-readable c.args.clock c.args.bytes.now c.args.randoms c.args.mem.now c.in_ok-loaded.loaded c.load.new.mem c.in_ok-loaded.ensures c.undigested-begun.result c.undigested-begun.ensures
+    c.requires.1 c.well_formed.1.1.1.0.1.0.1 c.republish-published.result c.republish-published.new.mem c.republish-published.ensures
 
 pub returns : goal.returns
 returns c =
-    resume_done c.args.clock c.args.bytes.now c.args.randoms c.args.mem.now c.args.s c.load-loaded.result c.load-loaded.new.mem c.load-loaded.ensures
-    (not-false _ c.if-not-loaded.false) c.undigested-begun.result c.undigested-begun.ensures c.requires.1 c.well_formed.1.1.1.1.0.1.0.1 c.republish-published.result c.republish-published.new.mem c.republish-published.ensures
-    c.with_digest.result c.with_digest.ensures
+    resume_done c.args.clock c.args.bytes.now c.args.randoms c.args.mem.now c.in_ok-loaded.loaded c.load.new.mem c.in_ok-loaded.ensures c.undigested-begun.result c.undigested-begun.ensures
+    c.requires.1 c.well_formed.1.1.1.0.1.0.1 c.republish-published.result c.republish-published.new.mem c.republish-published.ensures c.with_digest.result c.with_digest.ensures

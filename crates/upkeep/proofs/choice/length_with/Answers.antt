@@ -1,9 +1,8 @@
 use mathlib.Core.Path.{ap}
-use native.Mathlib.Omega.{arith}
 use Rattle.model.specs.State.{Endpoint}
 use Rattle.node.specs.View.{state_of}
 use Rattle.node.proofs.Parts.{state-held}
-use Rattle.upkeep.proofs.Choosing.{standing_asks, come_small, length-is}
+use Rattle.upkeep.proofs.Choosing.{standing_asks, length-is}
 use Rattle.upkeep.proofs.choice.length_with.Goals as goal
 
 pub own_data-ours-requires : goal.own_data-ours-requires
@@ -14,16 +13,6 @@ pub standing-old-requires : goal.standing-old-requires
 standing-old-requires c =
     standing_asks c.args.clock c.args.endpoint (state_of c.args.s c.args.mem.now) c.requires.1.0 c.requires.1.1.0 c.requires.1.1.1 c.endpoint_at-e.result.keep
     (ap (λ (x : Endpoint). x.keep) (c.endpoint_at-e.ensures c.args.mem.now)) c.own_data-ours.result.now c.own_data-ours.ensures
-
-pub overflow_sub-result : goal.overflow_sub-result
-overflow_sub-result c = omega (arith, c.standing-old.ensures.inside)
-
-pub overflow_add-result : goal.overflow_add-result
-overflow_add-result c =
-    omega (
-      arith,
-      come_small c.args.clock c.args.endpoint c.args.interval (state_of c.args.s c.args.mem.now) c.requires.1.0 c.standing-old.result c.own_data-ours.result.now c.own_data-ours.ensures c.standing-old.ensures c.size_of.result c.size_of.ensures,
-    )
 
 pub returns : goal.returns
 returns c =

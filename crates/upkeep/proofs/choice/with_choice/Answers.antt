@@ -1,9 +1,8 @@
 use mathlib.Core.Path.{refl, sym, ap, ◌∙◌}
-use lib.Seq.{length-take-le}
 use Rattle.model.specs.State.{Endpoint, own_data}
 use Rattle.node.specs.View.{state_of}
 use Rattle.node.proofs.Parts.{state-held}
-use Rattle.upkeep.proofs.Choosing.{standing_asks, stands_in, tlv-holds, choice_same, choice_other, swap_asks}
+use Rattle.upkeep.proofs.Choosing.{standing_asks, stands_in, choice_same, choice_other, swap_asks}
 use Rattle.upkeep.proofs.choice.with_choice.Goals as goal
 
 pub returns-then-e-interval : goal.returns-then-e-interval
@@ -23,14 +22,6 @@ pub own_seq-requires : goal.own_seq-requires
 own_seq-requires c =
     (c.requires.0, state-held c.args.s c.args.mem.now c.requires.1.0.table.held)
 
-pub slice_bounds-tlv-end : goal.slice_bounds-tlv-end
-slice_bounds-tlv-end c =
-    tlv-holds c.args.endpoint c.args.interval c.size_of-n.result c.keep_alive_tlv-tlv.result c.size_of-n.ensures c.keep_alive_tlv-tlv.ensures
-
-pub slice_bounds-publish_swap-end : goal.slice_bounds-publish_swap-end
-slice_bounds-publish_swap-end c =
-    sym (length-take-le c.size_of-n.result c.keep_alive_tlv-tlv.result (tlv-holds c.args.endpoint c.args.interval c.size_of-n.result c.keep_alive_tlv-tlv.result c.size_of-n.ensures c.keep_alive_tlv-tlv.ensures))
-
 pub publish_swap-r-requires : goal.publish_swap-r-requires
 publish_swap-r-requires c =
     let h = stands_in c.args.endpoint (own_data (state_of c.args.s c.args.mem.now)) c.own_data.result.now c.standing-old.result c.own_data.ensures c.standing-old.ensures in (
@@ -40,10 +31,6 @@ publish_swap-r-requires c =
         swap_asks c.args.clock c.args.endpoint c.args.interval c.args.s c.args.mem.now c.requires.0 c.requires.1.0 c.standing-old.result h c.size_of-n.result c.size_of-n.ensures c.keep_alive_tlv-tlv.result c.keep_alive_tlv-tlv.ensures c.requires.1.1.1.1,
       ),
     )
-
-pub with_endpoint-requires : goal.with_endpoint-requires
-with_endpoint-requires c =
-    (c.publish_swap-r.ensures.moved.rep.four, (c.requires.1.1.0, c.requires.1.1.1.0))
 
 pub returns : goal.returns
 returns c =

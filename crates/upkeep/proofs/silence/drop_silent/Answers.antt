@@ -1,12 +1,15 @@
 use Rattle.model.proofs.KeptParts.{midway-own}
 use Rattle.node.specs.View.{state_of}
-use Rattle.upkeep.proofs.Leaving.{held-midway}
+use Rattle.upkeep.proofs.Leaving.{held-midway, lent_midway, scanned_going}
 use Rattle.upkeep.proofs.Removal.{calm_published, silent-published}
 use Rattle.upkeep.proofs.silence.drop_silent.Goals as goal
 
+pub scan-marks-requires : goal.scan-marks-requires
+scan-marks-requires c = lent_midway c.args.clock c.args.s c.args.mem.now c.requires.0 c.requires.1.0
+
 pub returns-then-not-is_republishing : goal.returns-then-not-is_republishing
 returns-then-not-is_republishing c =
-    calm_published c.args.clock c.args.endpoint c.args.s c.args.mem.now c.requires.0 c.going-marks.result c.going-marks.ensures c.is_republishing.ensures c.if-not-is_republishing.true
+    calm_published c.args.clock c.args.endpoint c.args.s c.args.mem.now c.requires.0 c.scan-marks.result (scanned_going c.args.clock c.args.s c.args.mem.now c.requires.0 c.args.endpoint c.scan-marks.result c.scan-marks.ensures) c.is_republishing.ensures c.if-not-is_republishing.true
 
 pub drop_peers-requires : goal.drop_peers-requires
 drop_peers-requires c =
@@ -14,4 +17,4 @@ drop_peers-requires c =
 
 pub returns : goal.returns
 returns c =
-    silent-published c.args.clock c.args.endpoint c.args.s c.args.mem.now c.requires.0 c.going-marks.result c.going-marks.ensures c.is_republishing.ensures c.if-not-is_republishing.false c.drop_peers.result _ c.drop_peers.ensures
+    silent-published c.args.clock c.args.endpoint c.args.s c.args.mem.now c.requires.0 c.scan-marks.result (scanned_going c.args.clock c.args.s c.args.mem.now c.requires.0 c.args.endpoint c.scan-marks.result c.scan-marks.ensures) c.is_republishing.ensures c.if-not-is_republishing.false c.drop_peers.result _ c.drop_peers.ensures

@@ -1,33 +1,17 @@
 use borrow.Author.Tests.{not-true, not-false}
-use native.Mathlib.Omega.{arith}
 use Prim.Native.Nat.{◌-◌}
 use Rattle.node.proofs.Parts.{pred-is}
 use Rattle.upkeep.proofs.Events.{found-fits, quiet-tick, sent_tick}
 use Rattle.upkeep.proofs.tick.tick.Goals as goal
 
-pub bounds-randoms-k : goal.bounds-randoms-k
-bounds-randoms-k c = omega (arith, c.requires.1.1.1.0, c.requires.1.1.1.1.0)
-
 pub event_of-v-requires : goal.event_of-v-requires
 event_of-v-requires c =
     (found-fits c.args.clock c.args.endpoint c.args.randoms c.args.s c.args.mem.now c.cleared-b.result c.cleared-b.new.mem c.cleared-b.ensures c.endpoint_at-e.result (c.endpoint_at-e.ensures c.cleared-b.new.mem) c.requires.1.1.1.0 c.requires.1.1.1.1.0, c.requires.1.1.0)
-
-pub after_event-requires : goal.after_event-requires
-after_event-requires c = c.requires.1.1.0
-
-pub with_endpoint-r-requires : goal.with_endpoint-r-requires
-with_endpoint-r-requires c =
-    (c.cleared-b.ensures.published.moved.rep.four, (c.requires.1.1.1.0, c.requires.1.1.1.1.0))
 
 pub returns-then-not-v : goal.returns-then-not-v
 returns-then-not-v c =
     quiet-tick c.args.clock c.args.endpoint c.args.randoms c.args.s c.args.mem.now c.cleared-b.result c.cleared-b.new.mem c.cleared-b.ensures c.endpoint_at-e.result (c.endpoint_at-e.ensures c.cleared-b.new.mem) c.event_of-v.result (c.args.endpoint - 1) (pred-is c.args.endpoint) c.event_of-v.ensures
     c.after_event.result c.after_event.ensures c.with_endpoint-r.result (c.with_endpoint-r.ensures.0 c.cleared-b.new.mem c.cleared-b.ensures.published.moved.rep) (c.with_endpoint-r.ensures.1 c.cleared-b.new.mem) c.with_endpoint-r.ensures.2 c.args.room.now (not-true _ c.if-not-v.true)
-
-pub announce-requires : goal.announce-requires
-announce-requires c =
-    let f = c.with_endpoint-r.ensures.0 c.cleared-b.new.mem c.cleared-b.ensures.published.moved.rep in
-    (omega (arith, c.requires.1.1.1.1.1), omega (arith, f.digest, c.requires.0.digest))
 
 pub returns : goal.returns
 returns c =

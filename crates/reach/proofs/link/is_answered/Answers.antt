@@ -1,0 +1,31 @@
+use Rattle.std.proofs.Common.{rules, tests, sym, ◌∙◌}
+use Rattle.model.specs.Reach.{matches}
+use Rattle.wire.proofs.Steps.{step, ended}
+use Rattle.reach.proofs.Links.{found_by, picked_on, picked-here, picked_end}
+use Rattle.reach.specs.Marks.{link_in, answers}
+use Rattle.reach.proofs.link.is_answered.Goals as goal
+
+pub returns-then-is_some_and : goal.returns-then-is_some_and
+returns-then-is_some_and c =
+    let d = c.args.y.now in
+    let s = c.loop-h.h-iterator in
+    let h = c.in-Some.h in
+    let k = step d s c.loop-h.invariant.0 c.loop-h.iterator.0 h c.next.new.self c.in-Some.ensures.steps in
+    let b = rw k.tells.here at (found_by (matches c.args.r c.args.n (link_in c.args.l)) _ _ _ c.link_at.ensures c.is_some_and.ensures (λ m p. search (rules, tests))) in
+    sym (c.loop-h.invariant.1 ∙ picked-here (answers c.args.r c.args.n (link_in c.args.l)) d s.at h k.tells b c.if-is_some_and.true)
+
+pub loop-h-preserved : goal.loop-h-preserved
+loop-h-preserved c =
+    let d = c.args.y.now in
+    let s = c.loop-h.h-iterator in
+    let h = c.in-Some.h in
+    let k = step d s c.loop-h.invariant.0 c.loop-h.iterator.0 h c.next.new.self c.in-Some.ensures.steps in
+    let b = rw k.tells.here at (found_by (matches c.args.r c.args.n (link_in c.args.l)) _ _ _ c.link_at.ensures c.is_some_and.ensures (λ m p. search (rules, tests))) in
+    rw k.onward (k.row, c.loop-h.invariant.1 ∙ picked_on (answers c.args.r c.args.n (link_in c.args.l)) d s.at h k.tells b c.if-is_some_and.false)
+
+pub returns : goal.returns
+returns c =
+    let d = c.args.y.now in
+    let s = c.loop-h.h-iterator in
+    let e = ended d s c.loop-h.invariant.0 c.loop-h.iterator.0 c.next.new.self c.in-None.ensures.steps in
+    sym (c.loop-h.invariant.1 ∙ picked_end (answers c.args.r c.args.n (link_in c.args.l)) d s.at e)
