@@ -91,7 +91,7 @@ pub open_aside : {c : Context} (x : Bool) {t : Table} {d : Progress} {m r : List
 open_aside x h =
     record {
       marks = record { kept = h.marks.kept; fits = h.marks.fits; clock = h.marks.clock; cached = h.marks.cached };
-      writable = record { used = h.writable.used; room = h.writable.room; headed = h.writable.headed };
+      writable = record { used = h.writable.used; room = h.writable.room };
       omitted = h.omitted;
       dropped = h.dropped;
       first = h.first;

@@ -1,13 +1,12 @@
 -- A datagram as a whole: the work before the first TLV, and what is left once all are handled. Assumes nothing.
 use mathlib.Core.Path.{◌≡◌, refl, sym, ap, ◌∙◌, subst}
-use mathlib.Core.Bool.{Bool, false}
+use mathlib.Core.Bool.{Bool}
 use mathlib.Core.List.{List}
 use Prim.Native.Nat.{ℕ, ◌-◌, ◌≤◌}
 use native.Mathlib.Omega.{arith}
 use lib.ListN.{length, get_or, set}
 use Rattle.base.specs.Bytes.{Bytes}
 use Rattle.base.specs.Lists.{any}
-use Rattle.base.proofs.Tests.{no_way}
 use Rattle.wire.specs.Row.{value_of, tlvs}
 use Rattle.wire.specs.Answers.{tlv_of, Tells}
 use Rattle.wire.specs.declared.row.Header.{Header}
@@ -20,7 +19,6 @@ use Rattle.model.specs.Receive.{Answer, about_other, context_of as callContext, 
 use Rattle.model.specs.Invariant.{Midway}
 use Rattle.table.specs.View.{view, Wrote}
 use Rattle.table.specs.declared.Table.{Table}
-use Rattle.reach.specs.declared.Reached.{Reached}
 use Rattle.node.specs.declared.State.{State}
 use Rattle.node.specs.declared.Endpoint.{Endpoint}
 use Rattle.node.specs.declared.peers.Peers.{Peers}
@@ -46,22 +44,22 @@ context_in s clock endpoint unicast randoms others =
 abbrev pub call_in : State → List ℕ → ℕ → ℕ → Bool → List ℕ → Context
 call_in s d clock endpoint unicast randoms = context_in s clock endpoint unicast randoms (any (about_other s.own) (tlvs d))
 
-abbrev pub first_work : Context → State → Endpoint → Reached → Work
-first_work c s e g = gather c s s.table s.peers (at_start e g)
+abbrev pub first_work : Context → State → Endpoint → Work
+first_work c s e = gather c s s.table s.peers (at_start e)
 
 -- the parts of the state are the state
-first-state : (s : State) (clock endpoint : ℕ) (unicast : Bool) (randoms : List ℕ) (others : Bool) (e : Endpoint) (g : Reached) → set s.endpoints (endpoint - 1) e ≡ s.endpoints
-    → (first_work (context_in s clock endpoint unicast randoms others) s e g).state ≡ s
-first-state s clock endpoint unicast randoms others e g q = ap (λ (es : List Endpoint). put_endpoints es s) q
+first-state : (s : State) (clock endpoint : ℕ) (unicast : Bool) (randoms : List ℕ) (others : Bool) (e : Endpoint) → set s.endpoints (endpoint - 1) e ≡ s.endpoints
+    → (first_work (context_in s clock endpoint unicast randoms others) s e).state ≡ s
+first-state s clock endpoint unicast randoms others e q = ap (λ (es : List Endpoint). put_endpoints es s) q
 
 -- the first TLV can come
-pub first_ready : (s : State) (m r : List ℕ) (clock endpoint : ℕ) (unicast : Bool) (randoms : List ℕ) (others : Bool) (e : Endpoint) (g : Reached) → set s.endpoints (endpoint - 1) e ≡ s.endpoints
+pub first_ready : (s : State) (m r : List ℕ) (clock endpoint : ℕ) (unicast : Bool) (randoms : List ℕ) (others : Bool) (e : Endpoint) → set s.endpoints (endpoint - 1) e ≡ s.endpoints
     → Rep s m → Midway clock (state_of s m) → clock ≤ last_reading
-    → 1 ≤ endpoint → endpoint ≤ 4 → most_bytes ≤ length r → Ready (context_in s clock endpoint unicast randoms others) (first_work (context_in s clock endpoint unicast randoms others) s e g) m r
-first_ready s m r clock endpoint unicast randoms others e g q k i l low high big =
-    let z : (first_work (context_in s clock endpoint unicast randoms others) s e g).state ≡ s = first-state s clock endpoint unicast randoms others e g q in
+    → 1 ≤ endpoint → endpoint ≤ 4 → most_bytes ≤ length r → Ready (context_in s clock endpoint unicast randoms others) (first_work (context_in s clock endpoint unicast randoms others) s e) m r
+first_ready s m r clock endpoint unicast randoms others e q k i l low high big =
+    let z : (first_work (context_in s clock endpoint unicast randoms others) s e).state ≡ s = first-state s clock endpoint unicast randoms others e q in
     record {
-      sound = record { rep = subst (λ (x : State). Rep x m) (sym z) k; used = omega arith; room = big; headed = refl; cached = λ f. no_way false f refl };
+      sound = record { rep = subst (λ (x : State). Rep x m) (sym z) k; used = omega arith; room = big; cached = λ g f. cc };
       midway = subst (λ (x : State). Midway clock (state_of x m)) (sym z) i;
       clock = l;
       first = low;
@@ -78,9 +76,9 @@ module _ (s : State) (dg : List ℕ) (clock endpoint : ℕ) (unicast : Bool) (ra
   pub carried_on : Bytes dg → length dg ≤ most_bytes → w.omitted ≡ 0 → w.dropped ≡ 0 → (v : List ℕ) → value_of (tlv_of dg at h) ≡ v → (x : Step)
       → Told (context_in s clock endpoint unicast randoms found) 33 (on_tlv (context_of (context_in s clock endpoint unicast randoms found)) h.kind v) v t p d m' x
       → (u : Progress) (r'' : List ℕ) → Answered (context_in s clock endpoint unicast randoms found) x.act t x.progress m' r' u r''
-      → (t' : Table) (m'' : List ℕ) → TableAfter (context_in s clock endpoint unicast randoms found) v x.progress.sender x.act t m' t' m''
+      → (t' : Table) (m'' : List ℕ) → TableAfter (context_in s clock endpoint unicast randoms found) v x.act t m' t' m''
       → (q : Peers) → PeersRep q
-      → peers_of q ≡ touched_in (context_in s clock endpoint unicast randoms found) x.progress.sender x.act (greeted_in (context_in s clock endpoint unicast randoms found) x.progress.sender x.act (peers_of p))
+      → peers_of q ≡ touched_in (context_in s clock endpoint unicast randoms found) x.progress.sender x.act (greeted_in (context_in s clock endpoint unicast randoms found) x.act (peers_of p))
       → Through (call_in s dg clock endpoint unicast randoms) dg w m r h.next (gather (call_in s dg clock endpoint unicast randoms) s t' q u) m'' r''
   carried_on b few o g v z x y u r'' a t' m'' n q f j =
       let c : Context = call_in s dg clock endpoint unicast randoms in
@@ -93,12 +91,12 @@ same_answer : {s s' : ModelState} {b b' : List ℕ} {o o' d d' : ℕ} → s ≡ 
     → ◌≡◌ {A = Answer} (record { number = 0; state = s; bytes = b; omitted = o; dropped = d }) (record { number = 0; state = s'; bytes = b'; omitted = o'; dropped = d' })
 same_answer e1 e2 e3 e4 = cc
 
-module _ (s : State) (m r d : List ℕ) (clock endpoint : ℕ) (unicast : Bool) (randoms : List ℕ) (others : Bool) (l : Endpoint) (g : Reached) (y : set s.endpoints (endpoint - 1) l ≡ s.endpoints)
+module _ (s : State) (m r d : List ℕ) (clock endpoint : ℕ) (unicast : Bool) (randoms : List ℕ) (others : Bool) (l : Endpoint) (y : set s.endpoints (endpoint - 1) l ≡ s.endpoints)
     (e : others ≡ any (about_other s.own) (tlvs d)) (v : Work) (m' r' : List ℕ)
-    (p : Ran (context_in s clock endpoint unicast randoms others) (tlvs d) (first_work (context_in s clock endpoint unicast randoms others) s l g) m r v m' r') where
-  first-start : work_of (first_work (context_in s clock endpoint unicast randoms others) s l g) m r ≡ start_of (state_of s m)
+    (p : Ran (context_in s clock endpoint unicast randoms others) (tlvs d) (first_work (context_in s clock endpoint unicast randoms others) s l) m r v m' r') where
+  first-start : work_of (first_work (context_in s clock endpoint unicast randoms others) s l) m r ≡ start_of (state_of s m)
   unfolding work_of
-  first-start = ap (λ (x : State). start_of (state_of x m)) (first-state s clock endpoint unicast randoms others l g y)
+  first-start = ap (λ (x : State). start_of (state_of x m)) (first-state s clock endpoint unicast randoms others l y)
 
   same_context : context_of (context_in s clock endpoint unicast randoms others) ≡ callContext (state_of s m) (call_of d clock endpoint unicast randoms (length m) (length r))
   same_context = rw (state-own s m, e, pred-is endpoint)
@@ -107,14 +105,14 @@ module _ (s : State) (m r d : List ℕ) (clock endpoint : ℕ) (unicast : Bool) 
   handled-is : work_of v m' r' ≡ handled (state_of s m) (call_of d clock endpoint unicast randoms (length m) (length r))
   unfolding handled
   handled-is =
-      p.is ∙ ap (λ (x : ModelContext). all_tlvs x (tlvs d) (work_of (first_work (context_in s clock endpoint unicast randoms others) s l g) m r)) same_context
+      p.is ∙ ap (λ (x : ModelContext). all_tlvs x (tlvs d) (work_of (first_work (context_in s clock endpoint unicast randoms others) s l) m r)) same_context
       ∙ ap (all_tlvs (callContext (state_of s m) (call_of d clock endpoint unicast randoms (length m) (length r))) (tlvs d)) first-start
 
   -- and so are the tables passed through
   passed_is : Wrote s.table m (tables_of (state_of s m) (call_of d clock endpoint unicast randoms (length m) (length r))) v.state.table m'
   passed_is =
       subst (λ (es : List Entry). Wrote s.table m es v.state.table m')
-      (ap (λ (x : ModelContext). each_table x (tlvs d) (work_of (first_work (context_in s clock endpoint unicast randoms others) s l g) m r)) same_context
+      (ap (λ (x : ModelContext). each_table x (tlvs d) (work_of (first_work (context_in s clock endpoint unicast randoms others) s l) m r)) same_context
       ∙ ap (each_table (callContext (state_of s m) (call_of d clock endpoint unicast randoms (length m) (length r))) (tlvs d)) first-start)
       p.wrote
 

@@ -12,7 +12,9 @@ use Rattle.model.specs.Handle.{with_state, touch, digest_now, count_equal, on_ne
 use Rattle.model.proofs.Cases.{equal_unicast, network_equal, network_others, network_ask}
 use Rattle.trickle.specs.declared.Trickle.{Trickle}
 use Rattle.trickle.specs.View.{trickle_of}
+use Rattle.std.specs.Prelude.{Some}
 use Rattle.table.specs.declared.Table.{Table}
+use Rattle.reach.specs.declared.Reached.{Reached}
 use Rattle.node.specs.declared.State.{State}
 use Rattle.node.specs.declared.peers.Peers.{Peers}
 use Rattle.node.specs.View.{endpoint_of, state_of}
@@ -43,10 +45,10 @@ module _ (c : Context) (low : 1 ≤ c.endpoint) (high : c.endpoint ≤ 4) (b : S
 
 -- ---- a Network State TLV, marks and digest worked out; x: the digest g is ours
 
-module _ (v : List ℕ) (c : Context) {t : Table} {p : Peers} (d : Progress) {m : List ℕ} (f : d.fresh ≡ true) (g : List ℕ) (x : Bool) (e : x ≡ same d.reached.digest g) where
+module _ (v : List ℕ) (c : Context) {t : Table} {p : Peers} (d : Progress) {m : List ℕ} (o : Reached) (f : d.reached ≡ Some o) (g : List ℕ) (x : Bool) (e : x ≡ same o.digest g) where
   same-is : (b : State) (r : List ℕ) → Sound c.clock (gather c b t p d) m r → {z : Bool} → x ≡ z → same (digest_now (context_of c) (work_of (gather c b t p d) m r)) g ≡ z
   same-is b r h q =
-      let n : digest_now (context_of c) (work_of (gather c b t p d) m r) ≡ d.reached.digest = rw (work_own (gather c b t p d) m r, work_table (gather c b t p d) m r) (sym (h.cached f).digest) in
+      let n : digest_now (context_of c) (work_of (gather c b t p d) m r) ≡ o.digest = rw (work_own (gather c b t p d) m r, work_table (gather c b t p d) m r) (sym (h.cached o f).digest) in
       ap (λ (y : List ℕ). same y g) n ∙ sym e ∙ q
 
   module _ (q : x ≡ true) (low : 1 ≤ c.endpoint) (high : c.endpoint ≤ 4) {u : Progress} (k : Counts c d u) where

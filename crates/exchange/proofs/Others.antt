@@ -1,34 +1,22 @@
 -- A Node State about another node in the datagram: one TLV, and the search. Assumes nothing.
-use mathlib.Core.Path.{◌≡◌, sym, ap, ◌∙◌}
-use mathlib.Core.Bool.{Bool, true, false, not}
+use mathlib.Core.Path.{◌≡◌, sym, ap, ◌∙◌, subst}
+use mathlib.Core.Bool.{Bool, true, false}
 use mathlib.Core.List.{List}
-use Prim.Native.Nat.{ℕ, ◌≤◌, ◌<◌}
+use Prim.Native.Nat.{ℕ, ◌≤◌}
 use native.Mathlib.Omega.{arith}
 use lib.ListN.{length, drop, length-drop}
-use lib.Dec.{eqb}
-use borrow.Author.Tests.{eq-eqb, ne_eqb, le-leb, lt-leb}
 use Rattle.base.specs.Lists.{any}
-use Rattle.base.specs.Bytes.{u32_at}
-use Rattle.wire.specs.Row.{value_of, tlvs}
+use Rattle.wire.specs.Row.{tlvs}
 use Rattle.wire.specs.Answers.{tlv_of, Tells}
 use Rattle.wire.specs.declared.row.Header.{Header}
-use Rattle.wire.proofs.Rows.{tlvs_end, value-length, value-first}
+use Rattle.wire.proofs.Rows.{tlvs_end}
 use Rattle.model.specs.Receive.{about_other}
 
 -- ---- one TLV
 
-module _ (s : List ℕ) (at : ℕ) (h : Header) (k : Tells s at h) (own : ℕ) where
-  pub other-kind : ¬ (h.kind ≡ 5) → about_other own (tlv_of s at h) ≡ false
-  other-kind n = rw (sym k.kind, ne_eqb h.kind 5 n)
-
-  pub too_short : h.kind ≡ 5 → h.len < 28 → about_other own (tlv_of s at h) ≡ false
-  too_short e l = rw (sym k.kind, eq-eqb h.kind 5 e, value-length s at h k, lt-leb 28 h.len l)
-
-  -- the node that the code reads decides
-  pub long-state : h.kind ≡ 5 → 28 ≤ h.len → (n : ℕ) → n ≡ u32_at s h.start → about_other own (tlv_of s at h) ≡ not (eqb n own)
-  long-state e l n q =
-      let r : u32_at (value_of (tlv_of s at h)) 0 ≡ n = value-first s at h k (omega arith) ∙ sym q in
-      rw (sym k.kind, eq-eqb h.kind 5 e, value-length s at h k, le-leb 28 h.len l) (ap (λ (i : ℕ). not (eqb i own)) r)
+-- where its header says
+pub told_there : {s : List ℕ} {at : ℕ} {h : Header} → Tells s at h → Tells s h.at h
+told_there {s} {h = h} k = subst (λ (i : ℕ). Tells s i h) (sym k.here) k
 
 -- ---- the search
 

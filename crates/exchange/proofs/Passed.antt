@@ -2,11 +2,10 @@
 use mathlib.Core.Path.{◌≡◌, refl, sym, ap, ◌∙◌}
 use mathlib.Core.Bool.{Bool, true, false, not, ◌&&◌}
 use mathlib.Core.List.{List}
-use Prim.Native.Nat.{ℕ, ◌≤◌, ◌<◌}
+use Prim.Native.Nat.{ℕ}
 use native.Mathlib.Omega.{arith}
-use lib.Dec.{leb}
-use borrow.Author.Tests.{le-leb, lt-leb}
-use Rattle.base.proofs.Tests.{no_way, by_test, no_not, and_left, and_right, and_both, and_stop, and_no}
+use Rattle.base.proofs.Tests.{no_way, by_test, no_not, and_left, and_right}
+use Rattle.std.specs.Prelude.{Option, Some, None, is_some}
 use Rattle.wire.specs.Row.{type_of, value_of}
 use Rattle.model.specs.Handle.{touch, on_tlv, one_tlv}
 use Rattle.model.proofs.Cases.{touch-none, on_other, one_tlv_unicast, one_tlv_multicast}
@@ -14,33 +13,6 @@ use Rattle.reply.specs.declared.Context.{Context}
 use Rattle.reply.specs.View.{context_of, Work, work_of, Ready, Stepped}
 use Rattle.reply.proofs.Steps.{work_unknown, stepped_none, stepped_to, stepped_more}
 use Rattle.exchange.specs.Passed.{handles, idle}
-
--- ---- the types that are handled
-
-pub handles-between : (kind : ℕ) → 1 ≤ kind → kind ≤ 5 → true ≡ handles kind
-handles-between kind low high = sym (and_both (leb 1 kind) (leb kind 5) (le-leb 1 kind low) (le-leb kind 5 high))
-
-pub handles-below : (kind : ℕ) → kind < 1 → false ≡ handles kind
-handles-below kind l = and_stop (leb 1 kind) (leb kind 5) (lt-leb 1 kind l)
-
-pub handles-above : (kind : ℕ) → 5 < kind → false ≡ handles kind
-handles-above kind l = sym (and_no (leb 1 kind) (leb kind 5) (lt-leb kind 5 l))
-
--- ---- the answer by its cases, with `b` that the type `h` is handled
-
-pub idle-handled : (h u k b : Bool) → b ≡ h → b ≡ true → false ≡ not h && not (u && k)
-idle-handled true u k b p e = refl
-idle-handled false u k b p e = no_way b e p
-
-pub idle-unicast : (h u k b : Bool) → b ≡ h → b ≡ false → u ≡ true → not k ≡ not h && not (u && k)
-idle-unicast true u k b p e q = no_way b p e
-idle-unicast false true k b p e q = refl
-idle-unicast false false k b p e q = no_way false q refl
-
-pub idle-multicast : (h u k b : Bool) → b ≡ h → b ≡ false → u ≡ false → true ≡ not h && not (u && k)
-idle-multicast true u k b p e q = no_way b p e
-idle-multicast false true k b p e q = no_way true refl q
-idle-multicast false false k b p e q = refl
 
 -- ---- such a TLV changes nothing
 
@@ -52,6 +24,10 @@ not-both : (a b : Bool) → not (a && b) ≡ true → a ≡ true → b ≡ false
 not-both true b n e = no_not b n
 not-both false b n e = no_way false e refl
 
+absent : {A : Type 0} (o : Option A) → is_some o ≡ false → o ≡ None
+absent None e = refl
+absent (Some x) e = no_way true refl e
+
 module _ (c : Context) (w : Work) (m r : List ℕ) (t : List ℕ) where
   -- the type decides nothing
   type_passed : handles (type_of t) ≡ false → on_tlv (context_of c) (type_of t) (value_of t) (work_of w m r) ≡ work_of w m r
@@ -60,22 +36,22 @@ module _ (c : Context) (w : Work) (m r : List ℕ) (t : List ℕ) where
       (not_type (type_of t) 4 refl e) (not_type (type_of t) 5 refl e)
 
   -- with no sender there is no last contact
-  unknown-passed : c.unicast ≡ true → w.sender.known ≡ false → handles (type_of t) ≡ false → one_tlv (context_of c) t (work_of w m r) ≡ work_of w m r
+  unknown-passed : c.unicast ≡ true → is_some w.sender ≡ false → handles (type_of t) ≡ false → one_tlv (context_of c) t (work_of w m r) ≡ work_of w m r
   unknown-passed u k e =
-      one_tlv_unicast (context_of c) (work_of w m r) t u ∙ ap (touch (context_of c)) (type_passed e) ∙ touch-none (context_of c) (work_of w m r) (work_unknown w m r k)
+      one_tlv_unicast (context_of c) (work_of w m r) t u ∙ ap (touch (context_of c)) (type_passed e) ∙ touch-none (context_of c) (work_of w m r) (work_unknown w m r (absent w.sender k))
 
   -- over multicast none is set
   multicast-passed : c.unicast ≡ false → handles (type_of t) ≡ false → one_tlv (context_of c) t (work_of w m r) ≡ work_of w m r
   multicast-passed u e = one_tlv_multicast (context_of c) (work_of w m r) t u ∙ type_passed e
 
   -- passed over
-  pub one-passed : idle c.unicast w.sender.known (type_of t) ≡ true → one_tlv (context_of c) t (work_of w m r) ≡ work_of w m r
+  pub one-passed : idle c.unicast (is_some w.sender) (type_of t) ≡ true → one_tlv (context_of c) t (work_of w m r) ≡ work_of w m r
   one-passed e =
-      let n : handles (type_of t) ≡ false = no_not (handles (type_of t)) (and_left (not (handles (type_of t))) (not (c.unicast && w.sender.known)) e) in
-      let o : not (c.unicast && w.sender.known) ≡ true = and_right (not (handles (type_of t))) (not (c.unicast && w.sender.known)) e in
-      by_test c.unicast (λ u. unknown-passed u (not-both c.unicast w.sender.known o u) n) (λ u. multicast-passed u n)
+      let n : handles (type_of t) ≡ false = no_not (handles (type_of t)) (and_left (not (handles (type_of t))) (not (c.unicast && is_some w.sender)) e) in
+      let o : not (c.unicast && is_some w.sender) ≡ true = and_right (not (handles (type_of t))) (not (c.unicast && is_some w.sender)) e in
+      by_test c.unicast (λ u. unknown-passed u (not-both c.unicast (is_some w.sender) o u) n) (λ u. multicast-passed u n)
 
   -- as a step: none
-  pub passed-step : Ready c w m r → (kind : ℕ) → type_of t ≡ kind → idle c.unicast w.sender.known kind ≡ true → Stepped c 33 (one_tlv (context_of c) t) w m r w m r
+  pub passed-step : Ready c w m r → (kind : ℕ) → type_of t ≡ kind → idle c.unicast (is_some w.sender) kind ≡ true → Stepped c 33 (one_tlv (context_of c) t) w m r w m r
   passed-step h kind p e =
       stepped_more (stepped_to (stepped_none h.sound) (one_tlv (context_of c) t) (sym (one-passed (rw p e)))) 33 (omega arith)

@@ -3,19 +3,20 @@ use mathlib.Core.Path.{◌≡◌, refl, sym, ap, ◌∙◌}
 use mathlib.Core.Bool.{Bool, true, false, ◌&&◌}
 use mathlib.Core.List.{List, [], ◌∷◌, ◌++◌}
 use mathlib.Core.Option.{Option}
-use Prim.Native.Nat.{ℕ, ◌+◌, ◌-◌, ◌≤◌, ◌<◌}
+use Prim.Native.Nat.{ℕ, ◌+◌, ◌≤◌, ◌<◌}
 use native.Mathlib.Omega.{arith}
 use lib.ListN.{length}
 use lib.Dec.{ltb, leb}
-use borrow.Author.Tests.{le-leb, lt-leb, le-ltb, lt-ltb, ltb-true, leb-true}
+use borrow.Author.Tests.{le-leb, lt-ltb, ltb-true, leb-true}
 use Rattle.base.specs.Lists.{any, or_else}
-use Rattle.base.proofs.Tests.{and_left, and_right, and_both, and_no, and_stop, no_way}
+use Rattle.base.proofs.Tests.{and_left, and_right, and_both, no_way}
 use Rattle.model.specs.Figures.{most_peers, publish_limit, peer_bytes}
 use Rattle.model.specs.Sequence.{advance}
 use Rattle.model.specs.Table.{Entry}
 use Rattle.model.specs.State.{State as ModelState, own_data, publish_as, peer_tlv, with_tlv, is_peer}
 use Rattle.model.specs.Handle.{Sender as ModelSender, with_state, with_sender, ask_network, new_peer, room_for_peer, add_peer, greet, knows, on_endpoint}
 use Rattle.model.proofs.Cases.{greet-room, greet-full, stranger_unicast, stranger_multicast, endpoint-own, endpoint-known, endpoint_stranger}
+use Rattle.std.specs.Prelude.{None}
 use Rattle.table.specs.declared.Table.{Table}
 use Rattle.table.specs.View.{data_of, meta_at, Kept, Stands}
 use Rattle.table.proofs.Tables.{look-stands, data_length}
@@ -44,15 +45,6 @@ use Rattle.exchange.proofs.Telling.{passes_of, told_still, told_to, told_then}
 
 -- room for a peer, as the code asks
 module _ (count n : ℕ) where
-  pub room_many : most_peers ≤ count → false ≡ ltb count most_peers && leb (n + peer_bytes) publish_limit
-  room_many p = and_stop (ltb count most_peers) (leb (n + peer_bytes) publish_limit) (le-ltb count most_peers p)
-
-  pub room-full : publish_limit - peer_bytes < n → false ≡ ltb count most_peers && leb (n + peer_bytes) publish_limit
-  room-full p = sym (and_no (ltb count most_peers) (leb (n + peer_bytes) publish_limit) (lt-leb (n + peer_bytes) publish_limit (omega (arith, p))))
-
-  pub room-left : count < most_peers → n ≤ publish_limit - peer_bytes → true ≡ ltb count most_peers && leb (n + peer_bytes) publish_limit
-  room-left p q = sym (and_both (ltb count most_peers) (leb (n + peer_bytes) publish_limit) (lt-ltb count most_peers p) (le-leb (n + peer_bytes) publish_limit (omega (arith, q))))
-
   -- and what it says
   module _ (b : Bool) (e : b ≡ ltb count most_peers && leb (n + peer_bytes) publish_limit) (t : b ≡ true) where
     pub room-count : count < most_peers
@@ -76,7 +68,7 @@ module _ (c : Context) (w : Work) (m r : List ℕ) (h : Sound c.clock w m r) (f 
 
   -- a new peer
   pub greeted : w.state.peers.count < most_peers → length (own_data (state_of w.state m)) + peer_bytes ≤ publish_limit → (s : State) (m' : List ℕ)
-      → Published (add_peer c.clock (new_peer (context_of c) f) (state_of w.state m)) w.state m s m' → Stepped c 1 (greet (context_of c) f) w m r (put_state s false w) m' r
+      → Published (add_peer c.clock (new_peer (context_of c) f) (state_of w.state m)) w.state m s m' → Stepped c 1 (greet (context_of c) f) w m r (put_state s None w) m' r
   greeted p q s m' k =
       stepped_more
       (stepped-anew h (greet (context_of c) f) (add_peer c.clock (new_peer (context_of c) f) (state_of w.state m)) s m' k
@@ -95,9 +87,9 @@ same_size t m own k i j p q =
     ∙ (data_length t m j k q.at).0
 
 -- the peer and its Peer TLV in their places
-module _ (c : Context) (b : State) (t : Table) (p : Peers) (d : Progress) (m : List ℕ) (k : Rep (gathered c b t p d) m) {t' : Table} {m' : List ℕ} (l : Links c d.sender t m t' m') where
+module _ (c : Context) (b : State) (t : Table) (p : Peers) (d : Progress) (m : List ℕ) (k : Rep (gathered c b t p d) m) (f : Sender) {t' : Table} {m' : List ℕ} (l : Links c f t m t' m') where
   abbrev tlv_in : List ℕ
-  tlv_in = peer_tlv (record { node = d.sender.node; theirs = d.sender.endpoint; ours = c.endpoint; contact = 0 })
+  tlv_in = peer_tlv (record { node = f.node; theirs = f.endpoint; ours = c.endpoint; contact = 0 })
 
   -- our data with it are published under the next number
   linked_published : Published (publish_as c.clock (advance (meta_at t l.place).seq 1) (with_tlv tlv_in (own_data (state_of (gathered c b t p d) m))) (state_of (gathered c b t p d) m)) (gathered c b t p d) m (gathered c b t' p d) m'
@@ -107,7 +99,7 @@ module _ (c : Context) (b : State) (t : Table) (p : Peers) (d : Progress) (m : L
       (ap (with_tlv tlv_in) (sym (own_data_lem (gathered c b t p d) m l.place k l.stands))) l.stored
 
   pub joined-published : (q : Peers) (e : Peer) → PeersRep q → peers_of q ≡ peers_of p ++ (peer_of e ∷ [])
-      → e.node ≡ d.sender.node → e.theirs ≡ d.sender.endpoint → e.ours ≡ c.endpoint
+      → e.node ≡ f.node → e.theirs ≡ f.endpoint → e.ours ≡ c.endpoint
       → Published (add_peer c.clock (peer_of e) (state_of (gathered c b t p d) m)) (gathered c b t p d) m (gathered c b t' q d) m'
   joined-published q e g v e1 e2 e3 =
       added_published (gathered c b t p d) m k c.clock (advance (meta_at t l.place).seq 1) (with_tlv tlv_in (own_data (state_of (gathered c b t p d) m))) (gathered c b t' p d) m' linked_published
@@ -115,30 +107,30 @@ module _ (c : Context) (b : State) (t : Table) (p : Peers) (d : Progress) (m : L
 
 -- ---- as a step: room for a peer by the count of peers and the length of our data
 
-abbrev peer_at : Context → Progress → Peer
-peer_at c d = record { node = d.sender.node; theirs = d.sender.endpoint; ours = c.endpoint; contact = c.clock }
+abbrev peer_at : Context → Sender → Peer
+peer_at c f = record { node = f.node; theirs = f.endpoint; ours = c.endpoint; contact = c.clock }
 
-abbrev sender_in : Progress → ModelSender
-sender_in d = record { node = d.sender.node; endpoint = d.sender.endpoint }
+abbrev sender_in : Sender → ModelSender
+sender_in f = record { node = f.node; endpoint = f.endpoint }
 
-module _ (v : List ℕ) {c : Context} {t : Table} {p : Peers} {d : Progress} {m : List ℕ} (o : Markable c t d m) (i : ℕ) (s : Stands t c.own i) (n : ℕ) (l : n ≡ (meta_at t i).len)
+module _ (v : List ℕ) {c : Context} {t : Table} {p : Peers} {d : Progress} {m : List ℕ} (f : Sender) (o : Markable c t d m) (i : ℕ) (s : Stands t c.own i) (n : ℕ) (l : n ≡ (meta_at t i).len)
     (x : Bool) (e : x ≡ ltb p.count most_peers && leb (n + peer_bytes) publish_limit) where
   own-size : (b : State) (r : List ℕ) → Sound c.clock (gather c b t p d) m r → n ≡ length (own_data (state_of (gathered c b t p d) m))
   own-size b r h = l ∙ sym (own-length (gathered c b t p d) m i h.rep s)
 
   -- none
-  pub told-dropped : x ≡ false → Told c 1 (greet (context_of c) (sender_in d)) v t p d m (record { progress = d; act = Decided Dropped })
+  pub told-dropped : x ≡ false → Told c 1 (greet (context_of c) (sender_in f)) v t p d m (record { progress = d; act = Decided Dropped })
   told-dropped q =
       record {
         opens = λ r h. h;
         answers = tt;
         alters = (tt, tt);
         few = λ z. no_way false z refl;
-        is = λ j b t' y u m' r r' h a z k. rw (a.0, a.1, z.0, z.1, k) (passes_of (greeted_none c (gather c b t p d) m r h (sender_in d) x n e (own-size b r h) q));
+        is = λ j b t' y u m' r r' h a z k. rw (a.0, a.1, z.0, z.1, k) (passes_of (greeted_none c (gather c b t p d) m r h (sender_in f) x n e (own-size b r h) q));
       }
 
   -- some
-  pub told_greets : x ≡ true → Told c 1 (greet (context_of c) (sender_in d)) v t p d m (record { progress = d; act = Greet })
+  pub told_greets : x ≡ true → Told c 1 (greet (context_of c) (sender_in f)) v t p d m (record { progress = d; act = Greet f })
   told_greets q =
       record {
         opens = λ r h. h;
@@ -146,8 +138,8 @@ module _ (v : List ℕ) {c : Context} {t : Table} {p : Peers} {d : Progress} {m 
         alters = record { kept = o.kept; fits = o.fits; short = λ j y. rw (same_size t m c.own o.kept j i y s) (room_data p.count n x e q (meta_at t i).len l) };
         few = λ z. room-count p.count n x e q;
         is = λ j b t' y u m' r r' h a z k. rw (a.0, a.1) (passes_of
-            (greeted c (gather c b t p d) m r h (sender_in d) (room-count p.count n x e q) (room_data p.count n x e q (length (own_data (state_of (gathered c b t p d) m))) (own-size b r h))
-            (gathered c b t' y d) m' (joined-published c b t p d m h.rep z y (peer_at c d) k.0 k.1 refl refl refl)));
+            (greeted c (gather c b t p d) m r h (sender_in f) (room-count p.count n x e q) (room_data p.count n x e q (length (own_data (state_of (gathered c b t p d) m))) (own-size b r h))
+            (gathered c b t' y d) m' (joined-published c b t p d m h.rep f z y (peer_at c f) k.0 k.1 refl refl refl)));
       }
 
 -- ---- a Node Endpoint TLV
@@ -156,7 +148,7 @@ abbrev sender_from : ℕ → ℕ → ModelSender
 sender_from node endpoint = record { node = node; endpoint = endpoint }
 
 abbrev noted : ℕ → ℕ → Sender
-noted node endpoint = record { known = true; node = node; endpoint = endpoint }
+noted node endpoint = record { node = node; endpoint = endpoint }
 
 module _ (c : Context) (w : Work) (m r : List ℕ) (node endpoint : ℕ) where
   -- our own identifier
@@ -169,7 +161,7 @@ module _ (c : Context) (w : Work) (m r : List ℕ) (node endpoint : ℕ) where
 
   -- the sender is noted, whoever it is
   sender_noted : Sound c.clock w m r → Stepped c 0 (with_sender (sender_from node endpoint)) w m r (put_sender (noted node endpoint) w) m r
-  sender_noted h = stepped_sender h (with_sender (sender_from node endpoint)) (noted node endpoint) refl refl
+  sender_noted h = stepped_sender h (with_sender (sender_from node endpoint)) (noted node endpoint) refl
 
   module _ (h : Sound c.clock w m r) (n : ¬ (node ≡ w.state.own)) (b : Bool) (e : b ≡ any (is_peer node endpoint c.endpoint) (peers_of w.state.peers)) where
     not_own : ¬ (node ≡ (work_of w m r).state.own)
@@ -210,7 +202,7 @@ noted_open : {c : Context} {t : Table} {d : Progress} {m : List ℕ} (f : Sender
 noted_open f r o =
     record {
       marks = noted_marks f o.marks;
-      writable = record { used = o.writable.used; room = o.writable.room; headed = o.writable.headed };
+      writable = record { used = o.writable.used; room = o.writable.room };
       omitted = o.omitted;
       dropped = o.dropped;
       first = o.first;

@@ -1,6 +1,6 @@
 -- Steps that are told and carried out: one that leaves table and peers alone, one after another, and the whole with the last contact. Assumes nothing.
 use mathlib.Core.Path.{◌≡◌, refl, sym, ap, ◌∙◌}
-use mathlib.Core.Bool.{Bool, true, false, cond, ◌&&◌, ◌||◌}
+use mathlib.Core.Bool.{Bool, true, false, cond, ◌||◌}
 use mathlib.Core.List.{List, [], ◌∷◌, ◌++◌, map}
 use Prim.Native.Nat.{ℕ, ◌+◌, ◌≤◌, ◌<◌}
 use native.Mathlib.Omega.{arith}
@@ -8,10 +8,14 @@ use lib.ListN.{set}
 use Rattle.base.proofs.Tests.{no_way}
 use Rattle.wire.specs.Row.{type_of, value_of}
 use Rattle.model.specs.Figures.{most_peers}
-use Rattle.model.specs.State.{State as ModelState, Peer as ModelPeer, contacted, with_peers}
+use Rattle.model.specs.State.{State as ModelState, contacted, with_peers}
 use Rattle.model.specs.Handle.{Context as ModelContext, Sender as ModelSender, Work as ModelWork, with_state, touch_by, touch, on_tlv, one_tlv}
 use Rattle.model.proofs.Cases.{touch-none, touch-some, one_tlv_unicast, one_tlv_multicast}
+use Rattle.std.specs.Prelude.{Option, Some, None}
 use Rattle.table.specs.declared.Table.{Table}
+use Rattle.table.specs.View.{view}
+use Rattle.reach.specs.declared.Reached.{Reached}
+use Rattle.reach.specs.Marks.{Reaching}
 use Rattle.node.specs.declared.State.{State}
 use Rattle.node.specs.declared.peers.Peer.{Peer}
 use Rattle.node.specs.declared.peers.Peers.{Peers}
@@ -23,11 +27,13 @@ use Rattle.node.proofs.Contacts.{peers_add, peers_set_rep}
 use Rattle.reply.specs.declared.Context.{Context}
 use Rattle.reply.specs.declared.Sender.{Sender}
 use Rattle.reply.specs.declared.Progress.{Progress}
-use Rattle.reply.specs.View.{context_of, Work, gather, work_of, Sound, Stepped, Refreshed, Open}
+use Rattle.reply.specs.Updates.{with_reached}
+use Rattle.reply.specs.View.{context_of, Work, gather, work_of, Sound, Stepped, Open}
 use Rattle.reply.proofs.Steps.{work_state, work_known, work_unknown, put_state, gathered, stepped_to, stepped_more, stepped_then, stepped_last, stepped_kept, refreshed_stepped, refreshed_open}
 use Rattle.exchange.specs.declared.Step.{Step}
 use Rattle.exchange.specs.declared.Act.{Act}
-use Rattle.exchange.specs.Told.{still_at, Answered, TableAfter, greets, agrees, newcomer, greeted_in, touched_in, Greeted, Passes, Told}
+use Rattle.exchange.specs.declared.Act.TheVariants.{TellNetwork, TellNode, AskNetwork, Greet, Equal, Decided}
+use Rattle.exchange.specs.Told.{still_at, Answered, TableAfter, greets, agrees, newcomer, greeted_in, contact_set, touched_in, Greeted, Passes, Told}
 use Rattle.exchange.proofs.Touching.{touch-twice}
 use Rattle.exchange.proofs.Carrying.{answered-sender}
 
@@ -85,19 +91,20 @@ module _ {c : Context} {k : ℕ} {f : ModelWork → ModelWork} (v : List ℕ) {t
               record { stepped = stepped_more (stepped_then o y.stepped) k (omega arith); is = ap f (sym o.is) ∙ y.is };
         }
 
-    -- after marks and digest were worked out
-    pub told_refreshed : {u : Progress} → Refreshed c t u m d → Told c k f v t p u m x
-    told_refreshed {u} g = told_then (refreshed_open g) (λ b r h. refreshed_stepped g b p r h)
+-- after marks and digest were worked out
+pub told_refreshed : {c : Context} {k : ℕ} {f : ModelWork → ModelWork} (v : List ℕ) {t : Table} {p : Peers} (d : Progress) {m : List ℕ} (g : Reached) → Reaching c.own c.clock (view t m) g
+    → {x : Step} → Told c k f v t p (with_reached g d) m x → Told c k f v t p d m x
+told_refreshed v {p = p} d g h s = told_then v s (refreshed_open g h) (λ b r k. refreshed_stepped d g h b p r k)
 
 -- ---- the last contact, after the step
 
-touched-some : (c : Context) (w : Work) (m r : List ℕ) → Sound c.clock w m r → w.sender.known ≡ true → (s : State)
-    → Moved (with_peers (map (contacted w.sender.node w.sender.endpoint c.endpoint c.clock) (state_of w.state m).peers) (state_of w.state m)) m s m
-    → s.own ≡ w.state.own → s.table ≡ w.state.table → Stepped c 0 (touch (context_of c)) w m r (put_state s w.fresh w) m r
-touched-some c w m r h e s k o t =
-    let f : ModelSender = record { node = w.sender.node; endpoint = w.sender.endpoint } in
+touched-some : (c : Context) (w : Work) (m r : List ℕ) → Sound c.clock w m r → (x : Sender) → w.sender ≡ Some x → (s : State)
+    → Moved (with_peers (map (contacted x.node x.endpoint c.endpoint c.clock) (state_of w.state m).peers) (state_of w.state m)) m s m
+    → s.own ≡ w.state.own → s.table ≡ w.state.table → Stepped c 0 (touch (context_of c)) w m r (put_state s w.reached w) m r
+touched-some c w m r h x e s k o t =
+    let f : ModelSender = record { node = x.node; endpoint = x.endpoint } in
     stepped_kept h (touch (context_of c)) (touch_by (context_of c) f (state_of w.state m)) s k o t
-    (touch-some (context_of c) (work_of w m r) f (work_known w m r e)
+    (touch-some (context_of c) (work_of w m r) f (work_known w m r x e)
     ∙ ap (λ (x : ModelState). with_state (touch_by (context_of c) f x) (work_of w m r)) (work_state w m r))
 
 module _ (c : Context) (b : State) (t : Table) (q : Peers) (d : Progress) (m r : List ℕ) (h : Sound c.clock (gather c b t q d) m r) (p : Peers) (k : PeersRep p) where
@@ -109,23 +116,20 @@ module _ (c : Context) (b : State) (t : Table) (q : Peers) (d : Progress) (m r :
       refl refl (ap (λ (s : ModelState). with_state s (work_of (gather c b t q d) m r)) (work_state (gather c b t q d) m r))
 
   -- the sender among them heard now
-  met-peers : d.sender.known ≡ true → peers_of p ≡ map (contacted d.sender.node d.sender.endpoint c.endpoint c.clock) (peers_of q)
+  met-peers : (f : Sender) → d.sender ≡ Some f → peers_of p ≡ map (contacted f.node f.endpoint c.endpoint c.clock) (peers_of q)
       → Stepped c 0 (touch (context_of c)) (gather c b t q d) m r (gather c b t p d) m r
-  met-peers e v =
-      touched-some c (gather c b t q d) m r h e (gathered c b t p d)
-      (touched-moved (contacted d.sender.node d.sender.endpoint c.endpoint c.clock) (gathered c b t q d) p k v m h.rep) refl refl
-
-  abbrev met_in : Bool → List ModelPeer → List ModelPeer
-  met_in x ps = cond x (map (contacted d.sender.node d.sender.endpoint c.endpoint c.clock) ps) ps
+  met-peers f e v =
+      touched-some c (gather c b t q d) m r h f e (gathered c b t p d)
+      (touched-moved (contacted f.node f.endpoint c.endpoint c.clock) (gathered c b t q d) p k v m h.rep) refl refl
 
   -- both: a last contact to set, and a sender that is known
-  pub last-contact : (known flag : Bool) → d.sender.known ≡ known → peers_of p ≡ met_in (known && flag) (peers_of q)
+  pub last-contact : (f : Option Sender) (flag : Bool) → d.sender ≡ f → peers_of p ≡ contact_set c f flag (peers_of q)
       → Stepped c 0 (λ y. cond flag (touch (context_of c) y) y) (gather c b t q d) m r (gather c b t p d) m r
-  last-contact true true e v = met-peers e v
-  last-contact true false e v = same-peers v
-  last-contact false true e v =
+  last-contact (Some f) true e v = met-peers f e v
+  last-contact (Some f) false e v = same-peers v
+  last-contact None true e v =
       stepped_to (same-peers v) (touch (context_of c)) (sym (touch-none (context_of c) (work_of (gather c b t q d) m r) (work_unknown (gather c b t q d) m r e)))
-  last-contact false false e v = same-peers v
+  last-contact None false e v = same-peers v
 
 -- once is as often as it takes
 one-touch : (c : ModelContext) (w : ModelWork) (touches unicast : Bool)
@@ -137,23 +141,27 @@ one-touch c w false false = refl
 
 -- ---- the peers that there are before the last contact
 
-greeted_list : (c : Context) (f : Sender) (x : Act) (p : Peers) (b : Bool) → greets x ≡ b → PeersRep p → (greets x ≡ true → p.count < most_peers)
-    → (q : Peers) × (Greeted c f x p q × (PeersRep q × (peers_of q ≡ greeted_in c f x (peers_of p))))
-greeted_list c f x p true e k l =
+greeted_list : (c : Context) (x : Act) (p : Peers) → PeersRep p → (greets x ≡ true → p.count < most_peers)
+    → (q : Peers) × (Greeted c x p q × (PeersRep q × (peers_of q ≡ greeted_in c x (peers_of p))))
+greeted_list c (Greet f) p k l =
     let new : Peer = record { node = f.node; theirs = f.endpoint; ours = c.endpoint; contact = c.clock } in
     let q : Peers = record { count = p.count + 1; list = set p.list p.count new } in
-    let g : PeersRep q = peers_set_rep p p.count (p.count + 1) new k (omega (arith, l e)) in
-    let v : peers_of q ≡ peers_of p ++ (newcomer c f ∷ []) = peers_add p new k (l e) in
-    (q, (rw e (g, v), (g, rw e v)))
-greeted_list c f x p false e k l = (p, (rw e refl, (k, rw e refl)))
+    let g : PeersRep q = peers_set_rep p p.count (p.count + 1) new k (omega (arith, l refl)) in
+    let v : peers_of q ≡ peers_of p ++ (newcomer c f ∷ []) = peers_add p new k (l refl) in
+    (q, ((g, v), (g, v)))
+greeted_list c TellNetwork p k l = (p, (refl, (k, refl)))
+greeted_list c (TellNode place) p k l = (p, (refl, (k, refl)))
+greeted_list c AskNetwork p k l = (p, (refl, (k, refl)))
+greeted_list c Equal p k l = (p, (refl, (k, refl)))
+greeted_list c (Decided x) p k l = (p, (refl, (k, refl)))
 
 -- ---- one TLV as a whole
 
 module _ {c : Context} {kind : ℕ} {v : List ℕ} {t : Table} {p : Peers} {d : Progress} {m : List ℕ} {x : Step}
     (s : Told c 33 (on_tlv (context_of c) kind v) v t p d m x) (i : (1 ≤ c.endpoint) × (c.endpoint ≤ 4)) (b : State) (r : List ℕ) (h : Sound c.clock (gather c b t p d) m r)
     (tlv : List ℕ) (e : type_of tlv ≡ kind) (z : value_of tlv ≡ v) (u : Progress) (r' : List ℕ) (l : Answered c x.act t x.progress m r u r')
-    (t' : Table) (m' : List ℕ) (a : TableAfter c v x.progress.sender x.act t m t' m')
-    (p' : Peers) (k : PeersRep p') (y : peers_of p' ≡ touched_in c x.progress.sender x.act (greeted_in c x.progress.sender x.act (peers_of p))) where
+    (t' : Table) (m' : List ℕ) (a : TableAfter c v x.act t m t' m')
+    (p' : Peers) (k : PeersRep p') (y : peers_of p' ≡ touched_in c x.progress.sender x.act (greeted_in c x.act (peers_of p))) where
   one-is : one_tlv (context_of c) tlv (work_of (gather c b t p d) m r)
       ≡ cond c.unicast (touch (context_of c) (on_tlv (context_of c) kind v (work_of (gather c b t p d) m r))) (on_tlv (context_of c) kind v (work_of (gather c b t p d) m r))
   one-is = by c.unicast refl
@@ -169,11 +177,11 @@ module _ {c : Context} {kind : ℕ} {v : List ℕ} {t : Table} {p : Peers} {d : 
   pub one-carried : Stepped c 33 (one_tlv (context_of c) tlv) (gather c b t p d) m r (gather c b t' p' u) m' r'
   one-carried =
       let w : u.sender ≡ x.progress.sender = answered-sender c x.act t x.progress m r u r' l in
-      let g = greeted_list c x.progress.sender x.act p (greets x.act) refl h.rep.peers s.few in
+      let g = greeted_list c x.act p h.rep.peers s.few in
       let q : Peers = g.0 in
       let n : Passes c 33 (on_tlv (context_of c) kind v) (agrees x.act) (gather c b t p d) m r (gather c b t' q u) m' r' = s.is i b t' q u m' r r' h l a g.1.0 in
       let o : Stepped c 0 (λ j. cond (c.unicast || agrees x.act) (touch (context_of c) j) j) (gather c b t' q u) m' r' (gather c b t' p' u) m' r' =
-      last-contact c b t' q u m' r' n.stepped.sound p' k u.sender.known (c.unicast || agrees x.act) refl
+      last-contact c b t' q u m' r' n.stepped.sound p' k u.sender (c.unicast || agrees x.act) refl
       (rw w (y ∙ ap (touched_in c x.progress.sender x.act) (sym g.1.1.1))) in
       stepped_to (stepped_more (stepped_last n.stepped o refl) 33 (omega arith)) (one_tlv (context_of c) tlv)
       (one-touch (context_of c) (work_of (gather c b t' q u) m' r') (agrees x.act) c.unicast

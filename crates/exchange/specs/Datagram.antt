@@ -1,5 +1,5 @@
 -- What a datagram that is not refused leaves. Assumes nothing.
-use Rattle.std.specs.Prelude.{◌≡◌, Bool, false, List, ℕ, ◌≤◌, length, take, drop}
+use Rattle.std.specs.Prelude.{◌≡◌, None, Bool, List, ℕ, ◌≤◌, length, take, drop}
 use Rattle.model.specs.Figures.{most_bytes, table_bytes}
 use Rattle.wire.specs.Row.{tlvs}
 use Rattle.model.specs.Table.{Entry}
@@ -7,7 +7,6 @@ use Rattle.model.specs.State.{State as ModelState}
 use Rattle.model.specs.Handle.{all_tlvs, each_table}
 use Rattle.model.specs.Receive.{Call, context_of as callContext, start_of, answered, handled}
 use Rattle.table.specs.View.{Wrote}
-use Rattle.reach.specs.declared.Reached.{Reached}
 use Rattle.node.specs.declared.State.{State}
 use Rattle.node.specs.declared.Endpoint.{Endpoint}
 use Rattle.node.specs.View.{state_of, Rep}
@@ -22,9 +21,9 @@ call_of datagram clock endpoint unicast randoms table room =
     record { clock = clock; endpoint = endpoint; unicast = unicast; datagram = datagram; randoms = randoms; table = table; room = room }
 
 -- no sender, nothing written, marks and digest not worked out
-abbrev pub at_start : Endpoint → Reached → Progress
-at_start local g =
-    record { local = local; sender = record { known = false; node = 0; endpoint = 0 }; headed = false; used = 0; omitted = 0; dropped = 0; fresh = false; reached = g }
+abbrev pub at_start : Endpoint → Progress
+at_start local =
+    record { local = local; sender = None; used = 0; omitted = 0; dropped = 0; reached = None }
 
 -- the TLVs ts one after the other: the model's work; every byte that they do not write as it was, the data of each table that they leave laid in the memory
 pub record Ran (c : Context) (ts : List (List ℕ)) (w : Work) (m r : List ℕ) (v : Work) (m' r' : List ℕ) : Type 0 where

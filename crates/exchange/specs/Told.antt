@@ -1,9 +1,9 @@
 -- What a TLV asks for, carried out on the progress, the table and the peers, and what the step promises of the model's. Assumes nothing.
-use Rattle.std.specs.Prelude.{◌≡◌, Bool, true, false, cond, ◌&&◌, ◌||◌, List, [], ◌∷◌, ◌++◌, map, ℕ, ◌+◌, ◌≤◌, ◌<◌, drop}
+use Rattle.std.specs.Prelude.{◌≡◌, Option, Some, None, IsSome, Bool, true, false, cond, ◌||◌, List, [], ◌∷◌, ◌++◌, map, Result, Ok, Err, ℕ, ◌+◌, ◌≤◌, ◌<◌, drop}
 use Rattle.model.specs.Figures.{most_endpoints, most_peers, publish_limit, peer_bytes}
 use Rattle.model.specs.Sequence.{advance}
 use Rattle.model.specs.Trickle.{hear}
-use Rattle.model.specs.Table.{entry_of, stamp, anew}
+use Rattle.model.specs.Table.{entry_of, anew}
 use Rattle.model.specs.State.{Peer as ModelPeer, peer_tlv, with_tlv, contacted}
 use Rattle.model.specs.Messages.{request_node_tlv, whole_state}
 use Rattle.model.specs.Handle.{Work as ModelWork, reply, ask_network, touch, new_peer, on_request_network}
@@ -11,7 +11,7 @@ use Rattle.model.specs.Invariant.{TableFits}
 use Rattle.trickle.specs.declared.Trickle.{Trickle}
 use Rattle.trickle.specs.View.{trickle_of}
 use Rattle.table.specs.declared.Table.{Table}
-use Rattle.table.specs.View.{view, seen, data_of, meta_at, Kept, Stands, Stored, Renumbered}
+use Rattle.table.specs.View.{view, seen, version_of, data_of, meta_at, Kept, Stands, Stored, Renumbered}
 use Rattle.node.specs.declared.State.{State}
 use Rattle.node.specs.declared.peers.Peers.{Peers}
 use Rattle.node.specs.View.{peers_of, PeersRep}
@@ -43,8 +43,8 @@ pub record Counts (c : Context) (d v : Progress) : Type 0 where
 abbrev pub Notes : Context → Decision → Progress → List ℕ → Progress → List ℕ → Type 0
 Notes c Ignored d r v r' = (v ≡ d) × (r' ≡ r)
 Notes c (Ask node) d r v r' = Writes c 1 (reply (context_of c) (request_node_tlv node)) d r v r'
-Notes c (TakeNumber place node seq age) d r v r' = (v ≡ stale d) × (r' ≡ r)
-Notes c (TakeAll place held node seq age) d r v r' = (v ≡ stale d) × (r' ≡ r)
+Notes c (TakeNumber place version) d r v r' = (v ≡ stale d) × (r' ≡ r)
+Notes c (TakeAll place version) d r v r' = (v ≡ stale d) × (r' ≡ r)
 Notes c Dropped d r v r' = (v ≡ one_dropped d) × (r' ≡ r)
 
 -- what is asked for on the progress and in the room
@@ -52,16 +52,16 @@ abbrev pub Answered : Context → Act → Table → Progress → List ℕ → Li
 Answered c TellNetwork t d m r v r' = Answers c 33 (on_request_network (context_of c)) t d m r v r'
 Answered c (TellNode place) t d m r v r' = Writes c 1 (reply (context_of c) (whole_state c.clock (seen m (meta_at t place)))) d r v r'
 Answered c AskNetwork t d m r v r' = Writes c 1 (ask_network (context_of c)) d r v r'
-Answered c Greet t d m r v r' = (v ≡ stale d) × (r' ≡ r)
+Answered c (Greet f) t d m r v r' = (v ≡ stale d) × (r' ≡ r)
 Answered c Equal t d m r v r' = Counts c d v × (r' ≡ r)
 Answered c (Decided x) t d m r v r' = Notes c x d r v r'
 
 -- what that asks
 abbrev pub Answerable : Table → Progress → Act → Type 0
-Answerable t d TellNetwork = d.fresh ≡ true
+Answerable t d TellNetwork = IsSome d.reached
 Answerable t d (TellNode place) = place < t.count
 Answerable t d AskNetwork = Unit {0}
-Answerable t d Greet = Unit {0}
+Answerable t d (Greet f) = Unit {0}
 Answerable t d Equal = Unit {0}
 Answerable t d (Decided x) = Unit {0}
 
@@ -70,25 +70,30 @@ Answerable t d (Decided x) = Unit {0}
 abbrev pub takes : Decision → Bool
 takes Ignored = false
 takes (Ask node) = false
-takes (TakeNumber place node seq age) = true
-takes (TakeAll place held node seq age) = true
+takes (TakeNumber place version) = true
+takes (TakeAll place version) = true
 takes Dropped = false
 
 abbrev pub alters : Act → Bool
 alters TellNetwork = false
 alters (TellNode place) = false
 alters AskNetwork = false
-alters Greet = true
+alters (Greet f) = true
 alters Equal = false
 alters (Decided x) = takes x
 
+-- the place where a node stands or would stand
+abbrev pub place_in : Result ℕ ℕ → ℕ
+place_in (Ok place) = place
+place_in (Err place) = place
+
 -- a decision on the value v carried out
-abbrev pub TakenBy : ℕ → List ℕ → Decision → Table → List ℕ → Table → List ℕ → Type 0
-TakenBy clock v Ignored t m t' m' = (t' ≡ t) × (m' ≡ m)
-TakenBy clock v (Ask node) t m t' m' = (t' ≡ t) × (m' ≡ m)
-TakenBy clock v (TakeNumber place node seq age) t m t' m' = Renumbered node seq age clock t place t' × (m' ≡ m)
-TakenBy clock v (TakeAll place held node seq age) t m t' m' = Stored (entry_of node seq (drop 28 v) (stamp age clock)) t m place t' m'
-TakenBy clock v Dropped t m t' m' = (t' ≡ t) × (m' ≡ m)
+abbrev pub TakenBy : List ℕ → Decision → Table → List ℕ → Table → List ℕ → Type 0
+TakenBy v Ignored t m t' m' = (t' ≡ t) × (m' ≡ m)
+TakenBy v (Ask node) t m t' m' = (t' ≡ t) × (m' ≡ m)
+TakenBy v (TakeNumber place version) t m t' m' = Renumbered version.id version.seq version.age version.since t place t' × (m' ≡ m)
+TakenBy v (TakeAll place version) t m t' m' = Stored (version_of version (drop 28 v)) t m (place_in place) t' m'
+TakenBy v Dropped t m t' m' = (t' ≡ t) × (m' ≡ m)
 
 -- our own data can take a Peer TLV more
 pub record Joinable (c : Context) (t : Table) (m : List ℕ) : Type 0 where
@@ -106,21 +111,21 @@ pub record Links (c : Context) (f : Sender) (t : Table) (m : List ℕ) (t' : Tab
       (with_tlv (peer_tlv (record { node = f.node; theirs = f.endpoint; ours = c.endpoint; contact = 0 })) (data_of m (meta_at t place))) (anew c.clock))
       t m place t' m'
 
--- the table after what is asked for on the value v, from the sender f
-abbrev pub TableAfter : Context → List ℕ → Sender → Act → Table → List ℕ → Table → List ℕ → Type 0
-TableAfter c v f TellNetwork t m t' m' = (t' ≡ t) × (m' ≡ m)
-TableAfter c v f (TellNode place) t m t' m' = (t' ≡ t) × (m' ≡ m)
-TableAfter c v f AskNetwork t m t' m' = (t' ≡ t) × (m' ≡ m)
-TableAfter c v f Greet t m t' m' = Links c f t m t' m'
-TableAfter c v f Equal t m t' m' = (t' ≡ t) × (m' ≡ m)
-TableAfter c v f (Decided x) t m t' m' = TakenBy c.clock v x t m t' m'
+-- the table after what is asked for on the value v
+abbrev pub TableAfter : Context → List ℕ → Act → Table → List ℕ → Table → List ℕ → Type 0
+TableAfter c v TellNetwork t m t' m' = (t' ≡ t) × (m' ≡ m)
+TableAfter c v (TellNode place) t m t' m' = (t' ≡ t) × (m' ≡ m)
+TableAfter c v AskNetwork t m t' m' = (t' ≡ t) × (m' ≡ m)
+TableAfter c v (Greet f) t m t' m' = Links c f t m t' m'
+TableAfter c v Equal t m t' m' = (t' ≡ t) × (m' ≡ m)
+TableAfter c v (Decided x) t m t' m' = TakenBy v x t m t' m'
 
 -- what that asks
 abbrev pub Alterable : Context → List ℕ → Act → Table → List ℕ → Type 0
 Alterable c v TellNetwork t m = Unit {0}
 Alterable c v (TellNode place) t m = Unit {0}
 Alterable c v AskNetwork t m = Unit {0}
-Alterable c v Greet t m = Joinable c t m
+Alterable c v (Greet f) t m = Joinable c t m
 Alterable c v Equal t m = Unit {0}
 Alterable c v (Decided x) t m = Acts t x × Taken t v x
 
@@ -130,7 +135,7 @@ abbrev pub greets : Act → Bool
 greets TellNetwork = false
 greets (TellNode place) = false
 greets AskNetwork = false
-greets Greet = true
+greets (Greet f) = true
 greets Equal = false
 greets (Decided x) = false
 
@@ -139,33 +144,45 @@ abbrev pub agrees : Act → Bool
 agrees TellNetwork = false
 agrees (TellNode place) = false
 agrees AskNetwork = false
-agrees Greet = false
+agrees (Greet f) = false
 agrees Equal = true
 agrees (Decided x) = false
 
--- as it is by any TLV over unicast
-abbrev pub touching : Bool → Sender → Act → Bool
-touching unicast f x = f.known && (unicast || agrees x)
+-- as it is by any TLV over unicast, where the sender is known
+abbrev pub touching : Bool → Option Sender → Act → Bool
+touching unicast None x = false
+touching unicast (Some f) x = unicast || agrees x
 
-abbrev pub meets : Bool → Sender → Act → Bool
+abbrev pub meets : Bool → Option Sender → Act → Bool
 meets unicast f x = greets x || touching unicast f x
 
 abbrev pub newcomer : Context → Sender → ModelPeer
 newcomer c f = new_peer (context_of c) (record { node = f.node; endpoint = f.endpoint })
 
-abbrev pub greeted_in : Context → Sender → Act → List ModelPeer → List ModelPeer
-greeted_in c f x ps = cond (greets x) (ps ++ (newcomer c f ∷ [])) ps
+abbrev pub greeted_in : Context → Act → List ModelPeer → List ModelPeer
+greeted_in c TellNetwork ps = ps
+greeted_in c (TellNode place) ps = ps
+greeted_in c AskNetwork ps = ps
+greeted_in c (Greet f) ps = ps ++ (newcomer c f ∷ [])
+greeted_in c Equal ps = ps
+greeted_in c (Decided x) ps = ps
 
-abbrev pub touched_in : Context → Sender → Act → List ModelPeer → List ModelPeer
-touched_in c f x ps = cond (touching c.unicast f x) (map (contacted f.node f.endpoint c.endpoint c.clock) ps) ps
+-- the last contact with the sender set, if there is one
+abbrev pub contact_set : Context → Option Sender → Bool → List ModelPeer → List ModelPeer
+contact_set c None b ps = ps
+contact_set c (Some f) b ps = cond b (map (contacted f.node f.endpoint c.endpoint c.clock) ps) ps
+
+abbrev pub touched_in : Context → Option Sender → Act → List ModelPeer → List ModelPeer
+touched_in c f x ps = contact_set c f (c.unicast || agrees x) ps
 
 -- the peers, the sender among them if it becomes one
-abbrev GreetedBy : Bool → Context → Sender → Peers → Peers → Type 0
-GreetedBy true c f p q = PeersRep q × (peers_of q ≡ peers_of p ++ (newcomer c f ∷ []))
-GreetedBy false c f p q = q ≡ p
-
-abbrev pub Greeted : Context → Sender → Act → Peers → Peers → Type 0
-Greeted c f x p q = GreetedBy (greets x) c f p q
+abbrev pub Greeted : Context → Act → Peers → Peers → Type 0
+Greeted c TellNetwork p q = q ≡ p
+Greeted c (TellNode place) p q = q ≡ p
+Greeted c AskNetwork p q = q ≡ p
+Greeted c (Greet f) p q = PeersRep q × (peers_of q ≡ peers_of p ++ (newcomer c f ∷ []))
+Greeted c Equal p q = q ≡ p
+Greeted c (Decided x) p q = q ≡ p
 
 -- ---- the step
 
@@ -181,5 +198,5 @@ pub record Told (c : Context) (k : ℕ) (f : ModelWork → ModelWork) (v : List 
   pub alters : Alterable c v x.act t m
   pub few : greets x.act ≡ true → p.count < most_peers
   pub is : (1 ≤ c.endpoint) × (c.endpoint ≤ most_endpoints) → (b : State) (t' : Table) (q : Peers) (u : Progress) (m' r r' : List ℕ) → Sound c.clock (gather c b t p d) m r → Answered c x.act t x.progress m r u r'
-      → TableAfter c v x.progress.sender x.act t m t' m' → Greeted c x.progress.sender x.act p q
+      → TableAfter c v x.act t m t' m' → Greeted c x.act p q
       → Passes c k f (agrees x.act) (gather c b t p d) m r (gather c b t' q u) m' r'

@@ -2,23 +2,23 @@
 ghost use Rattle.std.specs.Prelude.{◌≡◌, true, ◌≤◌, ◌<◌, length, take, drop};
 ghost use Rattle.model.specs.Figures.{most_peers};
 ghost use Rattle.node.specs.View.{peers_of, PeersRep};
-ghost use Rattle.model.specs.Table.{entry_of, stamp};
-ghost use Rattle.table.specs.View.{Kept, Stored};
+ghost use Rattle.table.specs.View.{version_of, Finding, Kept, Stored};
 ghost use Rattle.reply.specs.Updates.{stale};
 ghost use Rattle.reply.specs.View.{most_counted, Writable, Open};
-ghost use Rattle.decide.specs.Decided.{Acts, Fine, HasRoom, Placed, Taken};
-ghost use Rattle.exchange.specs.Told.{Counts, Notes, Answered, Answerable, takes, alters, Joinable, Links, TakenBy, TableAfter, Alterable, greets, agrees, touching, meets, greeted_in, touched_in};
+ghost use Rattle.decide.specs.Decided.{Acts, Fine, HasRoom, Taken};
+ghost use Rattle.exchange.specs.Told.{place_in, Counts, Notes, Answered, Answerable, takes, alters, Joinable, Links, TakenBy, TableAfter, Alterable, greets, agrees, touching, meets, greeted_in, touched_in};
 
 use crate::Act;
 use decide::Decision;
 use message::peer_tlv;
 use model::sequence::advanced;
+use node::Endpoint;
 use node::peers::{Peer, Peers, add, with_contact};
 use node::publish::own_place;
 use reply::put::{ask_network, ask_node};
 use reply::tell::{tell_network, tell_node};
 use reply::{Context, Progress, Sender};
-use table::{Table, data_of, insert, insert_tlv, meta_at, renumber, replace};
+use table::{Table, Version, data_of, insert, insert_tlv, meta_at, renumber, replace};
 use wire::order::place_of;
 
 // The 16 bytes of the digest in a Node State's value.
@@ -26,19 +26,16 @@ fn hash_in(value: &[u8]) -> [u8; 16]
     requires { 28 ≤ length value.now }
     ensures { result ≡ take 16 (drop 12 value.now) }
 {
-    [
-        value[12], value[13], value[14], value[15], value[16], value[17], value[18], value[19],
-        value[20], value[21], value[22], value[23], value[24], value[25], value[26], value[27],
-    ]
+    let mut hash = [0; 16];
+    hash.copy_from_slice(&value[12..28]);
+    hash
 }
 
 // Marks and digest are to be worked out anew.
 fn stale(d: Progress) -> Progress
     ensures { result ≡ stale d }
 {
-    let mut next = d;
-    next.fresh = false;
-    next
+    Progress { reached: None, ..d }
 }
 
 // An equal digest: over multicast it counts.
@@ -48,14 +45,11 @@ fn counted(d: Progress, c: Context) -> Progress
     if c.unicast {
         return d;
     }
-    let e = d.local;
-    let trickle = e.trickle;
-    let heard = trickle.hear();
-    let mut f = e;
-    f.trickle = heard;
-    let mut next = d;
-    next.local = f;
-    next
+    let local = Endpoint {
+        trickle: d.local.trickle.hear(),
+        ..d.local
+    };
+    Progress { local, ..d }
 }
 
 // The progress once it is decided: a request, one dropped more, or marks and digest to be worked out anew.
@@ -66,24 +60,11 @@ fn noted(d: Progress, mem: &[u8], room: &mut [u8], c: Context, decision: Decisio
     match decision {
         Decision::Ignored => d,
         Decision::Ask { node } => ask_node(d, mem, room, c, node),
-        Decision::TakeNumber {
-            place: _,
-            node: _,
-            seq: _,
-            age: _,
-        } => stale(d),
-        Decision::TakeAll {
-            place: _,
-            held: _,
-            node: _,
-            seq: _,
-            age: _,
-        } => stale(d),
-        Decision::Dropped => {
-            let mut next = d;
-            next.dropped = d.dropped + 1;
-            next
-        }
+        Decision::TakeNumber { .. } | Decision::TakeAll { .. } => stale(d),
+        Decision::Dropped => Progress {
+            dropped: d.dropped + 1,
+            ..d
+        },
     }
 }
 
@@ -103,7 +84,7 @@ pub fn answered(
         Act::TellNetwork => tell_network(d, t, mem, room, c),
         Act::TellNode { place } => tell_node(d, t, mem, room, c, place),
         Act::AskNetwork => ask_network(d, mem, room, c),
-        Act::Greet => stale(d),
+        Act::Greet(_) => stale(d),
         Act::Equal => counted(d, c),
         Act::Decided(decision) => noted(d, mem, room, c, decision),
     }
@@ -115,24 +96,10 @@ pub fn answered(
 fn is_taking(decision: Decision) -> bool
     ensures { result ≡ takes decision }
 {
-    match decision {
-        Decision::Ignored => false,
-        Decision::Ask { node: _ } => false,
-        Decision::TakeNumber {
-            place: _,
-            node: _,
-            seq: _,
-            age: _,
-        } => true,
-        Decision::TakeAll {
-            place: _,
-            held: _,
-            node: _,
-            seq: _,
-            age: _,
-        } => true,
-        Decision::Dropped => false,
-    }
+    matches!(
+        decision,
+        Decision::TakeNumber { .. } | Decision::TakeAll { .. }
+    )
 }
 
 // The table changes.
@@ -140,12 +107,9 @@ pub fn is_altering(act: Act) -> bool
     ensures { result ≡ alters act }
 {
     match act {
-        Act::TellNetwork => false,
-        Act::TellNode { place: _ } => false,
-        Act::AskNetwork => false,
-        Act::Greet => true,
-        Act::Equal => false,
+        Act::Greet(_) => true,
         Act::Decided(decision) => is_taking(decision),
+        _ => false,
     }
 }
 
@@ -153,46 +117,30 @@ pub fn is_altering(act: Act) -> bool
 fn stored(
     t: Table,
     mem: &mut [u8],
-    clock: u64,
     value: &[u8],
-    place: usize,
-    held: bool,
-    node: u32,
-    seq: u32,
-    age: u32,
+    place: Result<usize, usize>,
+    version: Version,
 ) -> Table
-    requires { Kept t mem.old × (Placed t node place held × (HasRoom t held × Fine value.now)) }
-    ensures { Stored (entry_of node seq (drop 28 value.now) (stamp age clock)) t mem.old place result mem.new }
+    requires { Kept t mem.old × (Finding t version.id place × (HasRoom t place × Fine value.now)) }
+    ensures { Stored (version_of version (drop 28 value.now)) t mem.old (place_in place) result mem.new }
 {
     let hash = hash_in(value);
-    if held {
-        return replace(t, mem, place, node, seq, age, clock, hash, &value[28..]);
+    let bytes = &value[28..];
+    match place {
+        Ok(i) => replace(t, mem, i, version, hash, bytes),
+        Err(i) => insert(t, mem, i, version, hash, bytes),
     }
-    insert(t, mem, place, node, seq, age, clock, hash, &value[28..])
 }
 
 // The table with what is decided on this value.
-fn taken(t: Table, mem: &mut [u8], clock: u64, value: &[u8], decision: Decision) -> Table
+fn taken(t: Table, mem: &mut [u8], value: &[u8], decision: Decision) -> Table
     requires { Kept t mem.old × (Acts t decision × Taken t value.now decision) }
-    ensures { TakenBy clock value.now decision t mem.old result mem.new }
+    ensures { TakenBy value.now decision t mem.old result mem.new }
 {
     match decision {
-        Decision::Ignored => t,
-        Decision::Ask { node: _ } => t,
-        Decision::TakeNumber {
-            place,
-            node,
-            seq,
-            age,
-        } => renumber(t, place, node, seq, age, clock),
-        Decision::TakeAll {
-            place,
-            held,
-            node,
-            seq,
-            age,
-        } => stored(t, mem, clock, value, place, held, node, seq, age),
-        Decision::Dropped => t,
+        Decision::TakeNumber { place, version } => renumber(t, place, version),
+        Decision::TakeAll { place, version } => stored(t, mem, value, place, version),
+        Decision::Ignored | Decision::Ask { .. } | Decision::Dropped => t,
     }
 }
 
@@ -205,21 +153,19 @@ fn linked(t: Table, mem: &mut [u8], c: Context, f: Sender) -> Table
     let e = meta_at(t, i);
     let tlv = peer_tlv(f.node, f.endpoint, c.endpoint);
     let p = place_of(data_of(t, mem, i), &tlv);
-    insert_tlv(t, mem, i, c.own, advanced(e.seq, 1), c.clock, p, &tlv)
+    let v = Version::anew(c.own, advanced(e.seq, 1), c.clock);
+    insert_tlv(t, mem, i, v, p, &tlv)
 }
 
-// The table after what is asked for by a TLV with this value from this sender.
-pub fn altered(t: Table, mem: &mut [u8], c: Context, f: Sender, value: &[u8], act: Act) -> Table
+// The table after what is asked for by a TLV with this value.
+pub fn altered(t: Table, mem: &mut [u8], c: Context, value: &[u8], act: Act) -> Table
     requires { Kept t mem.old × Alterable c value.now act t mem.old }
-    ensures { TableAfter c value.now f act t mem.old result mem.new }
+    ensures { TableAfter c value.now act t mem.old result mem.new }
 {
     match act {
-        Act::TellNetwork => t,
-        Act::TellNode { place: _ } => t,
-        Act::AskNetwork => t,
-        Act::Greet => linked(t, mem, c, f),
-        Act::Equal => t,
-        Act::Decided(decision) => taken(t, mem, c.clock, value, decision),
+        Act::Greet(f) => linked(t, mem, c, f),
+        Act::Decided(decision) => taken(t, mem, value, decision),
+        _ => t,
     }
 }
 
@@ -229,61 +175,38 @@ pub fn altered(t: Table, mem: &mut [u8], c: Context, f: Sender, value: &[u8], ac
 fn is_greeting(act: Act) -> bool
     ensures { result ≡ greets act }
 {
-    match act {
-        Act::TellNetwork => false,
-        Act::TellNode { place: _ } => false,
-        Act::AskNetwork => false,
-        Act::Greet => true,
-        Act::Equal => false,
-        Act::Decided(_) => false,
-    }
+    matches!(act, Act::Greet(_))
 }
 
 // The digest received is ours: the sender is in contact.
 fn is_agreeing(act: Act) -> bool
     ensures { result ≡ agrees act }
 {
-    match act {
-        Act::TellNetwork => false,
-        Act::TellNode { place: _ } => false,
-        Act::AskNetwork => false,
-        Act::Greet => false,
-        Act::Equal => true,
-        Act::Decided(_) => false,
-    }
+    matches!(act, Act::Equal)
 }
 
 // The sender's last contact is set: by an equal digest, or by any TLV over unicast.
-fn is_touching(f: Sender, unicast: bool, act: Act) -> bool
+fn is_touching(f: Option<Sender>, unicast: bool, act: Act) -> bool
     ensures { result ≡ touching unicast f act }
 {
-    if !f.known {
-        return false;
-    }
-    if unicast {
-        return true;
-    }
-    is_agreeing(act)
+    f.is_some() && (unicast || is_agreeing(act))
 }
 
 // The peers change.
-pub fn is_meeting(f: Sender, unicast: bool, act: Act) -> bool
+pub fn is_meeting(f: Option<Sender>, unicast: bool, act: Act) -> bool
     ensures { result ≡ meets unicast f act }
 {
-    if is_greeting(act) {
-        return true;
-    }
-    is_touching(f, unicast, act)
+    is_greeting(act) || is_touching(f, unicast, act)
 }
 
 // The sender as one more peer, if it becomes one.
-fn joined(p: Peers, c: Context, f: Sender, act: Act) -> Peers
+fn joined(p: Peers, c: Context, act: Act) -> Peers
     requires { PeersRep p × (greets act ≡ true → p.count < most_peers) }
-    ensures { PeersRep result × (peers_of result ≡ greeted_in c f act (peers_of p)) }
+    ensures { PeersRep result × (peers_of result ≡ greeted_in c act (peers_of p)) }
 {
-    if !is_greeting(act) {
+    let Act::Greet(f) = act else {
         return p;
-    }
+    };
     add(
         p,
         Peer {
@@ -296,13 +219,15 @@ fn joined(p: Peers, c: Context, f: Sender, act: Act) -> Peers
 }
 
 // The peers after what is asked for: one more, if the sender becomes one, and its last contact.
-pub fn met(p: Peers, c: Context, f: Sender, act: Act) -> Peers
+pub fn met(p: Peers, c: Context, f: Option<Sender>, act: Act) -> Peers
     requires { PeersRep p × (greets act ≡ true → p.count < most_peers) }
-    ensures { PeersRep result × (peers_of result ≡ touched_in c f act (greeted_in c f act (peers_of p))) }
+    ensures { PeersRep result × (peers_of result ≡ touched_in c f act (greeted_in c act (peers_of p))) }
 {
-    let q = joined(p, c, f, act);
-    if !is_touching(f, c.unicast, act) {
-        return q;
+    let q = joined(p, c, act);
+    match f {
+        Some(f) if c.unicast || is_agreeing(act) => {
+            with_contact(q, f.node, f.endpoint, c.endpoint, c.clock)
+        }
+        _ => q,
     }
-    with_contact(q, f.node, f.endpoint, c.endpoint, c.clock)
 }

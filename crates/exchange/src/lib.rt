@@ -14,7 +14,7 @@ ghost use Rattle.std.specs.Prelude.{◌≡◌};
 ghost use Rattle.exchange.specs.Told.{still_at};
 
 use decide::Decision;
-use reply::Progress;
+use reply::{Progress, Sender};
 
 // What a TLV asks for, decided and not carried out yet: our network's state, the state of the node at a place, a request for the sender's network state,
 // the sender as a new peer, its equal digest counted, or what is decided on a Node State.
@@ -23,7 +23,7 @@ pub enum Act {
     TellNetwork,
     TellNode { place: usize },
     AskNetwork,
-    Greet,
+    Greet(Sender),
     Equal,
     Decided(Decision),
 }

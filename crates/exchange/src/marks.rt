@@ -1,20 +1,16 @@
 // Marks and digest between two TLVs.
-ghost use Rattle.reply.specs.View.{Markable, Refreshed};
+ghost use Rattle.table.specs.View.{view};
+ghost use Rattle.reach.specs.Marks.{Reaching};
+ghost use Rattle.reply.specs.View.{Markable};
 
-use reach::reach;
+use reach::{Reached, reach};
 use reply::{Context, Progress};
 use table::Table;
 
-// Marks and digest worked out, unless nothing has changed since they were.
-pub fn refreshed(d: Progress, t: Table, mem: &[u8], c: Context) -> Progress
+// Marks and digest: worked out, unless the table is as it was when they last were.
+pub fn refreshed(d: Progress, t: Table, mem: &[u8], c: Context) -> Reached
     requires { Markable c t d mem.now }
-    ensures { Refreshed c t d mem.now result }
+    ensures { Reaching c.own c.clock (view t mem.now) result }
 {
-    if d.fresh {
-        return d;
-    }
-    let mut next = d;
-    next.reached = reach(t, mem, c.own, c.clock);
-    next.fresh = true;
-    next
+    d.reached.unwrap_or_else(|| reach(t, mem, c.own, c.clock))
 }

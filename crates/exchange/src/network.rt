@@ -9,16 +9,18 @@ use crate::marks::refreshed;
 use crate::{Act, Step, still};
 use reply::{Context, Progress};
 use table::Table;
-use wire::order::is_same;
 
 // A Network State TLV with this digest: ours, or another, and then a Node State about another node may come with it.
 pub fn on_network(d: Progress, t: Table, mem: &[u8], c: Context, digest: &[u8]) -> Step
     requires { Markable c t d mem.now }
     ensures { (v : List ℕ) (p : Peers) → Told c 1 (on_network (context_of c) digest.now) v t p d mem.now result }
 {
-    let u = refreshed(d, t, mem, c);
-    let ours = u.reached.digest;
-    if is_same(&ours, digest) {
+    let reached = refreshed(d, t, mem, c);
+    let u = Progress {
+        reached: Some(reached),
+        ..d
+    };
+    if reached.digest.as_slice() == digest {
         return Step {
             progress: u,
             act: Act::Equal,

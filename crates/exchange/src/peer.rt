@@ -1,5 +1,5 @@
 // Node Endpoint TLVs: the sender, and new peers.
-ghost use Rattle.std.specs.Prelude.{◌≡◌, ◌&&◌, true, List, ℕ, ◌+◌, ltb, leb};
+ghost use Rattle.std.specs.Prelude.{◌≡◌, ◌&&◌, List, ℕ, ◌+◌, ltb, leb};
 ghost use Rattle.model.specs.Figures.{most_peers, publish_limit, peer_bytes};
 ghost use Rattle.model.specs.Handle.{greet, on_endpoint};
 ghost use Rattle.node.specs.View.{PeersRep};
@@ -21,26 +21,20 @@ const FULL: usize = PUBLISH_LIMIT - PEER_BYTES;
 fn has_room(count: usize, len: usize) -> bool
     ensures { result ≡ ltb count most_peers && leb (len + peer_bytes) publish_limit }
 {
-    if MOST_PEERS <= count {
-        return false;
-    }
-    if FULL < len {
-        return false;
-    }
-    true
+    count < MOST_PEERS && len <= FULL
 }
 
 // The sender, unknown and over unicast: a peer if there is room, else dropped.
-fn greet(d: Progress, t: Table, p: Peers, mem: &[u8], c: Context) -> Step
-    requires { Markable c t d mem.now × (d.sender.known ≡ true) }
-    ensures { (v : List ℕ) → Told c 1 (greet (context_of c) (record { node = d.sender.node; endpoint = d.sender.endpoint })) v t p d mem.now result }
+fn greet(d: Progress, t: Table, p: Peers, mem: &[u8], c: Context, f: Sender) -> Step
+    requires { Markable c t d mem.now }
+    ensures { (v : List ℕ) → Told c 1 (greet (context_of c) (record { node = f.node; endpoint = f.endpoint })) v t p d mem.now result }
 {
     let i = own_place(t, mem, c.own);
     let e = meta_at(t, i);
     if has_room(p.count, e.len as usize) {
         return Step {
             progress: d,
-            act: Act::Greet,
+            act: Act::Greet(f),
         };
     }
     Step {
@@ -65,18 +59,16 @@ pub fn on_endpoint(
     if node == c.own {
         return still(d);
     }
-    let f = Sender {
-        known: true,
-        node,
-        endpoint,
+    let f = Sender { node, endpoint };
+    let next = Progress {
+        sender: Some(f),
+        ..d
     };
-    let mut next = d;
-    next.sender = f;
     if is_known(p, node, endpoint, c.endpoint) {
         return still(next);
     }
     if c.unicast {
-        return greet(next, t, p, mem, c);
+        return greet(next, t, p, mem, c, f);
     }
     Step {
         progress: next,

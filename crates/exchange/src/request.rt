@@ -8,15 +8,19 @@ ghost use Rattle.exchange.specs.Told.{Told};
 use crate::marks::refreshed;
 use crate::{Act, Step, still};
 use reply::{Context, Progress};
-use table::{Found, Table, find};
+use table::{Table, find};
 
 // A Request Network State TLV.
 pub fn on_request_network(d: Progress, t: Table, mem: &[u8], c: Context) -> Step
     requires { Markable c t d mem.now }
     ensures { (v : List ℕ) (p : Peers) → Told c 33 (on_request_network (context_of c)) v t p d mem.now result }
 {
+    let reached = refreshed(d, t, mem, c);
     Step {
-        progress: refreshed(d, t, mem, c),
+        progress: Progress {
+            reached: Some(reached),
+            ..d
+        },
         act: Act::TellNetwork,
     }
 }
@@ -26,17 +30,16 @@ pub fn on_request_node(d: Progress, t: Table, mem: &[u8], c: Context, node: u32)
     requires { Markable c t d mem.now }
     ensures { (v : List ℕ) (p : Peers) → Told c 1 (on_request_node (context_of c) node) v t p d mem.now result }
 {
-    let u = refreshed(d, t, mem, c);
-    let found = find(t, node);
-    let Found::At(place) = found else {
-        return still(u);
+    let reached = refreshed(d, t, mem, c);
+    let u = Progress {
+        reached: Some(reached),
+        ..d
     };
-    let reachable = u.reached.marks;
-    if reachable[place] {
-        return Step {
+    match find(t, node) {
+        Ok(place) if reached.marks[place] => Step {
             progress: u,
             act: Act::TellNode { place },
-        };
+        },
+        _ => still(u),
     }
-    still(u)
 }

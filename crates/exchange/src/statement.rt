@@ -13,7 +13,7 @@ use model::figures::RECLAIM_STEP;
 use model::sequence::advanced;
 use node::publish::own_place;
 use reply::{Context, Progress};
-use table::{Table, meta_at};
+use table::{Table, Version, meta_at};
 
 // A Node State about our own node: ours is reclaimed where it is older, or as old with another digest.
 fn on_own_state(d: Progress, t: Table, mem: &[u8], c: Context, value: &[u8]) -> Step
@@ -31,9 +31,7 @@ fn on_own_state(d: Progress, t: Table, mem: &[u8], c: Context, value: &[u8]) -> 
         progress: d,
         act: Act::Decided(Decision::TakeNumber {
             place,
-            node: own,
-            seq: advanced(seq, RECLAIM_STEP),
-            age: 0,
+            version: Version::anew(own, advanced(seq, RECLAIM_STEP), c.clock),
         }),
     }
 }

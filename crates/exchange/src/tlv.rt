@@ -15,28 +15,20 @@ use base::big_endian::read_u32;
 use node::peers::Peers;
 use reply::{Context, Progress};
 use table::Table;
+use wire::kind::Kind;
 
-// The types that are handled; a TLV of another is passed over.
+// The types that are handled, from Request Network State to Node State; a TLV of another is passed over.
 fn is_handled(kind: u16) -> bool
     ensures { result ≡ handles kind }
 {
-    match kind {
-        1..=5 => true,
-        _ => false,
-    }
+    matches!(kind, 1..=5)
 }
 
 // A TLV of this type changes nothing: no rule handles it, and there is no last contact to set.
 pub fn is_idle(unicast: bool, known: bool, kind: u16) -> bool
     ensures { result ≡ idle unicast known kind }
 {
-    if is_handled(kind) {
-        return false;
-    }
-    if unicast {
-        return !known;
-    }
-    true
+    !is_handled(kind) && !(unicast && known)
 }
 
 // The type decides; what is too short is passed over.
@@ -52,33 +44,19 @@ pub fn on_tlv(
     requires { Markable c t d mem.now × PeersRep p }
     ensures { Told c 33 (on_tlv (context_of c) kind value.now) value.now t p d mem.now result }
 {
-    match kind {
-        1 => on_request_network(d, t, mem, c),
-        2 => {
-            if value.len() < 4 {
-                return still(d);
-            }
+    let Ok(known) = Kind::try_from(kind) else {
+        return still(d);
+    };
+    match known {
+        Kind::RequestNetwork => on_request_network(d, t, mem, c),
+        Kind::RequestNode if value.len() >= 4 => {
             on_request_node(d, t, mem, c, read_u32(value, 0))
         }
-        3 => {
-            if value.len() < 8 {
-                return still(d);
-            }
+        Kind::NodeEndpoint if value.len() >= 8 => {
             on_endpoint(d, t, p, mem, c, read_u32(value, 0), read_u32(value, 4))
         }
-        4 => {
-            if value.len() < 16 {
-                return still(d);
-            }
-            on_network(d, t, mem, c, &value[0..16])
-        }
-        5 => {
-            if value.len() < 28 {
-                return still(d);
-            }
-            on_state(d, t, mem, c, value)
-        }
-        32..=511 => still(d),
+        Kind::NetworkState if value.len() >= 16 => on_network(d, t, mem, c, &value[..16]),
+        Kind::NodeState if value.len() >= 28 => on_state(d, t, mem, c, value),
         _ => still(d),
     }
 }

@@ -26,10 +26,6 @@ module _ {s : State} {m : List ℕ} (l : AsLeft s m) (room : table_bytes ≤ len
   pub left-midway : (clock : ℕ) → (state_of s m).last ≤ clock → Midway clock (state_of s m)
   left-midway clock later = valid-midway clock (state_of s m) (l.valid room) later
 
-pub state-last : (s : State) (m : List ℕ) → (state_of s m).last ≡ s.last
-unfolding state_of
-state-last s m = refl
-
 -- a state that is kept, and valid with its memory
 pub rep-left : {s : State} {m : List ℕ} → Rep s m → Valid (state_of s m) → AsLeft s m
 rep-left k v =
@@ -76,11 +72,11 @@ start-accepted clock table e =
 
 module _ (clock : ℕ) (s : ModelState) where
   pub table-accepted : (table : ℕ) (more : List Row) → Numbered more → first_of (late clock ∷ back clock s ∷ small_table table ∷ more) ≡ 0
-      → (clock ≤ last_reading) × ((s.last ≤ clock) × (table_bytes ≤ table))
+      → (clock ≤ last_reading) × ((s.last ≤ clock) × ((table_bytes ≤ table) × All (λ r. r.applies ≡ false) more))
   table-accepted table more n e =
       let rows : List Row = late clock ∷ back clock s ∷ small_table table ∷ more in
       let a : All (λ r. r.applies ≡ false) rows = none_first rows ((λ z. omega (arith, z)), ((λ z. omega (arith, z)), ((λ z. omega (arith, z)), n))) e in
-      (not_late clock a.0, (not_back clock s a.1.0, not-small table a.1.1.0))
+      (not_late clock a.0, (not_back clock s a.1.0, (not-small table a.1.1.0, a.1.1.1)))
 
   pub room-accepted : (table room least : ℕ) → first_of (late clock ∷ back clock s ∷ small_room table room least ∷ []) ≡ 0
       → (clock ≤ last_reading) × ((s.last ≤ clock) × ((table_bytes ≤ table) × (least ≤ room)))
@@ -89,12 +85,13 @@ module _ (clock : ℕ) (s : ModelState) where
       let a : All (λ r. r.applies ≡ false) rows = none_first rows (omega arith) e in
       (not_late clock a.0, (not_back clock s a.1.0, not_small_room table room least a.1.1.0))
 
-  pub interval-accepted : (endpoint interval table : ℕ) → first_of (late clock ∷ back clock s ∷ no_such_endpoint endpoint ∷ no_interval interval ∷ small_table table ∷ []) ≡ 0
-      → (clock ≤ last_reading) × ((s.last ≤ clock) × (((1 ≤ endpoint) × (endpoint ≤ 4)) × (((1 ≤ interval) × (interval ≤ most_keep_alive)) × (table_bytes ≤ table))))
-  interval-accepted endpoint interval table e =
-      let rows : List Row = late clock ∷ back clock s ∷ no_such_endpoint endpoint ∷ no_interval interval ∷ small_table table ∷ [] in
-      let a : All (λ r. r.applies ≡ false) rows = none_first rows (omega arith) e in
-      (not_late clock a.0, (not_back clock s a.1.0, (one_to_four endpoint a.1.1.0, (in_range interval a.1.1.1.0, not-small table a.1.1.1.1.0))))
+  pub interval-accepted : (endpoint interval table : ℕ) (more : List Row) → Numbered more
+      → first_of (late clock ∷ back clock s ∷ no_such_endpoint endpoint ∷ no_interval interval ∷ small_table table ∷ more) ≡ 0
+      → (clock ≤ last_reading) × ((s.last ≤ clock) × (((1 ≤ endpoint) × (endpoint ≤ 4)) × (((1 ≤ interval) × (interval ≤ most_keep_alive)) × ((table_bytes ≤ table) × All (λ r. r.applies ≡ false) more))))
+  interval-accepted endpoint interval table more n e =
+      let rows : List Row = late clock ∷ back clock s ∷ no_such_endpoint endpoint ∷ no_interval interval ∷ small_table table ∷ more in
+      let a : All (λ r. r.applies ≡ false) rows = none_first rows ((λ z. omega (arith, z)), ((λ z. omega (arith, z)), ((λ z. omega (arith, z)), ((λ z. omega (arith, z)), ((λ z. omega (arith, z)), n))))) e in
+      (not_late clock a.0, (not_back clock s a.1.0, (one_to_four endpoint a.1.1.0, (in_range interval a.1.1.1.0, (not-small table a.1.1.1.1.0, a.1.1.1.1.1)))))
 
   pub endpoint-accepted : (endpoint table room : ℕ) (more : List Row) → Numbered more → first_of (late clock ∷ back clock s ∷ no_such_endpoint endpoint ∷ small_room table room most_bytes ∷ more) ≡ 0
       → (clock ≤ last_reading) × ((s.last ≤ clock) × (((1 ≤ endpoint) × (endpoint ≤ 4)) × ((table_bytes ≤ table) × (most_bytes ≤ room))))

@@ -38,7 +38,7 @@ module _ (clock : ℕ) (s : State) (m : List ℕ) (r : Marked) (l : AsLeft s m) 
   table = view s.table m
 
   valid : Valid (state_of s m)
-  valid = l.valid (table-accepted clock (state_of s m) (length m) [] tt (sym (marks-number clock s m r h) ∙ z)).1.1
+  valid = l.valid (table-accepted clock (state_of s m) (length m) [] tt (sym (marks-number clock s m r h) ∙ z)).1.1.0
 
   ids : listed r ≡ map id_of (counted clock s m)
   ids = ap (λ (x : ModelMarks). x.nodes) (marks-counted clock s m r h z)

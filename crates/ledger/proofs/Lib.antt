@@ -1,7 +1,6 @@
 pub mod First
 pub mod Left
 pub mod Answering
-pub mod Numbers
 pub mod Changing
 pub mod Sending
 pub mod Sums

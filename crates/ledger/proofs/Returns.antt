@@ -27,8 +27,7 @@ use Rattle.ledger.specs.Promises.{AsLeft, Resumes, Saves}
 use Rattle.ledger.specs.Calls.{Look, PublicCall}
 use Rattle.ledger.specs.Returning.{snapshot_of, SavedComesBack}
 use Rattle.ledger.proofs.Left.{room-accepted}
-use Rattle.ledger.proofs.Answering.{as_accepted}
-use Rattle.ledger.proofs.Numbers.{goes-late}
+use Rattle.ledger.proofs.Answering.{goes-late, as_accepted}
 use Rattle.ledger.proofs.Calls.{refusals_leave_all}
 
 -- ---- saved
@@ -65,7 +64,7 @@ module _ (later : ℕ) (bytes rs : List ℕ) (table : ℕ) (v : ModelState) (b :
   read = rw e refl
 
   not-refused : 0 ≡ refusal_resume later bytes table
-  not-refused = goes-late (late later ∷ small_table table ∷ []) (no_snapshot later bytes ∷ []) 0 begun (omega arith) refl 0 read
+  not-refused = goes-late (late later ∷ small_table table ∷ []) (no_snapshot later bytes ∷ []) (omega arith) begun read
 
   resume-is : resume later bytes rs table v ≡ record { number = 0; state = resumed later rs b }
   unfolding resume

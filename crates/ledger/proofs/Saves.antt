@@ -7,15 +7,19 @@ use lib.ListN.{length, drop, length-append, length-drop}
 use Rattle.base.specs.Memory.{written}
 use Rattle.base.proofs.Written.{part-there, written-above}
 use Rattle.model.specs.Figures.{last_reading, snapshot_bytes}
+use Rattle.model.specs.Numbers.{number}
+use Rattle.model.specs.declared.numbers.Refusal.{Refusal}
+use Rattle.model.specs.State.{State as ModelState}
 use Rattle.model.specs.Snapshot.{Saved as ModelSaved, saved, refusal_save, save}
 use Rattle.model.specs.Invariant.{TableFits}
 use Rattle.table.specs.View.{view, Kept}
 use Rattle.snapshot.specs.Answers.{SavedTo}
 use Rattle.node.specs.declared.State.{State}
 use Rattle.node.specs.View.{state_of}
+use Rattle.node.proofs.Parts.{state-last}
 use Rattle.ledger.specs.Promises.{AsLeft, SavesTo}
 use Rattle.ledger.proofs.Left.{left-rep, left-midway, room-accepted}
-use Rattle.ledger.proofs.Answering.{as_refused, as_accepted}
+use Rattle.ledger.proofs.Answering.{refused, as_refused, as_accepted}
 
 abbrev answer : ℕ → List ℕ → ModelSaved
 answer k d = record { number = k; bytes = d }
@@ -36,30 +40,31 @@ module _ (d q q' : List ℕ) (r : ℕ) (h : SavedTo d q q' r) (same : length q' 
         rest = ap (drop r) h.front ∙ written-above q d 0 fits r (omega (arith, h.size));
       }
 
-module _ (clock table room : ℕ) (s : State) (m : List ℕ) (k : ℕ) (e : k ≡ refusal_save clock table room (state_of s m)) where
-  pub save-refused : (q : List ℕ) → ¬ (k ≡ 0) → SavesTo (save clock table room (state_of s m)) q (record { number = k; length = 0 }) q
+module _ (clock room : ℕ) {s : State} {m : List ℕ} (l : AsLeft s m) where
+  pub save-refused : (n : Refusal) → ((v : ModelState) → v.last ≡ s.last → number n ≡ refusal_save clock (length m) room v) → (q : List ℕ)
+      → SavesTo (save clock (length m) room (state_of s m)) q (record { number = number n; length = 0 }) q
   unfolding save
-  save-refused q z =
+  save-refused n f q =
       record {
-        is = as_refused k (refusal_save clock table room (state_of s m)) e (answer 0 (saved (state_of s m).own clock (state_of s m).table)) (λ n. answer n []) z;
+        is = as_refused (number n) (refusal_save clock (length m) room (state_of s m)) (f (state_of s m) (state-last s m)) (answer 0 (saved (state_of s m).own clock (state_of s m).table)) (λ k. answer k []) (refused n);
         within = omega arith;
         room = refl;
         rest = refl;
       }
 
-  accepted : k ≡ 0 → answer 0 (saved s.own clock (view s.table m)) ≡ save clock table room (state_of s m)
-  unfolding save state_of
-  accepted z =
-      as_accepted k (refusal_save clock table room (state_of s m)) e (answer 0 (saved (state_of s m).own clock (state_of s m).table)) (λ n. answer n []) z
+  -- a call that is not refused
+  module _ (f : (v : ModelState) → v.last ≡ s.last → 0 ≡ refusal_save clock (length m) room v) where
+    accepted : answer 0 (saved s.own clock (view s.table m)) ≡ save clock (length m) room (state_of s m)
+    unfolding save state_of
+    accepted =
+        as_accepted 0 (refusal_save clock (length m) room (state_of s m)) (f (state_of s m) (state-last s m)) (answer 0 (saved (state_of s m).own clock (state_of s m).table)) (λ k. answer k []) refl
 
-  pub save_accepted : (q q' : List ℕ) (r : ℕ) → k ≡ 0 → SavedTo (saved s.own clock (view s.table m)) q q' r → length q' ≡ length q
-      → SavesTo (save clock table room (state_of s m)) q (record { number = 0; length = r }) q'
-  save_accepted q q' r z h same = stored (saved s.own clock (view s.table m)) q q' r h same (save clock table room (state_of s m)) (accepted z)
+    pub save_accepted : (q q' : List ℕ) (r : ℕ) → SavedTo (saved s.own clock (view s.table m)) q q' r → length q' ≡ length q
+        → SavesTo (save clock (length m) room (state_of s m)) q (record { number = 0; length = r }) q'
+    save_accepted q q' r h same = stored (saved s.own clock (view s.table m)) q q' r h same (save clock (length m) room (state_of s m)) accepted
 
--- a call that is not refused may save
-pub save_ready : {s : State} {m : List ℕ} (clock room k : ℕ) → AsLeft s m → k ≡ refusal_save clock (length m) room (state_of s m) → k ≡ 0
-    → Kept s.table m × (TableFits s.own clock (view s.table m) × ((clock ≤ last_reading) × (snapshot_bytes ≤ room)))
-unfolding state_of
-save_ready {s} {m} clock room k l e z =
-    let a = room-accepted clock (state_of s m) (length m) room snapshot_bytes (sym e ∙ z) in
-    ((left-rep l a.1.1.0).table, ((left-midway l a.1.1.0 clock a.1.0).table, (a.0, a.1.1.1)))
+    pub save_ready : Kept s.table m × (TableFits s.own clock (view s.table m) × ((clock ≤ last_reading) × (snapshot_bytes ≤ room)))
+    unfolding state_of
+    save_ready =
+        let a = room-accepted clock (state_of s m) (length m) room snapshot_bytes (sym (f (state_of s m) (state-last s m))) in
+        ((left-rep l a.1.1.0).table, ((left-midway l a.1.1.0 clock a.1.0).table, (a.0, a.1.1.1)))

@@ -1,5 +1,11 @@
 // What calls that change nothing answer. A number is one of the documents', or 0 where the call is accepted; with another number all else is 0.
+// Numbers, flags and lists with a count beside them are the C interface.
+ghost use Rattle.std.specs.Prelude.{◌≡◌, pos, replicate};
+ghost use Rattle.model.specs.Figures.{most_nodes};
+ghost use Rattle.model.specs.Numbers.{number};
+
 use model::figures::MOST_NODES;
+use model::numbers::Refusal;
 
 // What total and sum answer.
 #[repr(C)]
@@ -10,6 +16,18 @@ pub struct Summed {
     pub value: i64,
     // Payments of reachable nodes that can't be read, of whatever household.
     pub unread: u32,
+}
+
+impl Summed {
+    pub fn refused(refusal: Refusal) -> Summed
+        ensures { result ≡ record { number = number refusal; value = pos 0; unread = 0 } }
+    {
+        Summed {
+            number: refusal.number(),
+            value: 0,
+            unread: 0,
+        }
+    }
 }
 
 // What marks answers.
@@ -27,6 +45,20 @@ pub struct Marked {
     pub digest: [u8; 16],
 }
 
+impl Marked {
+    pub fn refused(refusal: Refusal) -> Marked
+        ensures { result ≡ record { number = number refusal; count = 0; levels = 0; nodes = replicate most_nodes 0; digest = replicate 16 0 } }
+    {
+        Marked {
+            number: refusal.number(),
+            count: 0,
+            levels: 0,
+            nodes: [0; MOST_NODES],
+            digest: [0; 16],
+        }
+    }
+}
+
 // What save answers.
 #[repr(C)]
 #[derive(Clone, Copy)]
@@ -34,6 +66,17 @@ pub struct Saved {
     pub number: u32,
     // Bytes of the snapshot, at the front of what was lent for it.
     pub length: usize,
+}
+
+impl Saved {
+    pub fn refused(refusal: Refusal) -> Saved
+        ensures { result ≡ record { number = number refusal; length = 0 } }
+    {
+        Saved {
+            number: refusal.number(),
+            length: 0,
+        }
+    }
 }
 
 // What show answers: a part of the table memory.

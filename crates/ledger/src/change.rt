@@ -4,9 +4,10 @@ ghost use Rattle.ledger.specs.Promises.{AsLeft, Begins, Resumes, Receives, Ticks
 
 use crate::refusal;
 use model::figures::MOST_ENDPOINTS;
-use model::numbers::NOT_A_SNAPSHOT;
+use model::numbers::Refusal;
 use node::State;
 use node::answers::{Answer, Done, Sent};
+use wire::payment::Payment;
 
 // Begins with our node alone: empty data, sequence number 0, no peers. Also over a running node and at an earlier reading; all that was held is gone.
 pub fn pingvratha_begin(
@@ -19,13 +20,12 @@ pub fn pingvratha_begin(
     requires { AsLeft state memory.now }
     ensures { Begins own clock randoms.now state memory.now result }
 {
-    let number = refusal::of_start(clock, memory.len());
-    if number != 0 {
-        return Done { number, state };
-    }
-    Done {
-        number: 0,
-        state: start::begin::begin(own, clock, *randoms, memory),
+    match refusal::of_start(clock, memory.len()) {
+        Err(refusal) => Done::refused(refusal, state),
+        Ok(()) => Done {
+            number: 0,
+            state: start::begin::begin(own, clock, *randoms, memory),
+        },
     }
 }
 
@@ -41,21 +41,15 @@ pub fn pingvratha_resume(
     requires { AsLeft state memory.old }
     ensures { Resumes snapshot.now clock randoms.now state memory.old result memory.new }
 {
-    let number = refusal::of_start(clock, memory.len());
-    if number != 0 {
-        return Done { number, state };
+    if let Err(refusal) = refusal::of_start(clock, memory.len()) {
+        return Done::refused(refusal, state);
     }
-    let r = start::resume::resume(state, snapshot, memory, clock, *randoms);
-    let next = r.state;
-    if !r.ok {
-        return Done {
-            number: NOT_A_SNAPSHOT,
+    match start::resume::resume(snapshot, memory, clock, *randoms) {
+        None => Done::refused(Refusal::NotASnapshot, state),
+        Some(next) => Done {
+            number: 0,
             state: next,
-        };
-    }
-    Done {
-        number: 0,
-        state: next,
+        },
     }
 }
 
@@ -74,26 +68,19 @@ pub fn pingvratha_receive(
     requires { AsLeft state memory.old }
     ensures { Receives datagram.now clock endpoint unicast randoms.now state memory.old room.old result memory.new room.new }
 {
-    let number = refusal::of_datagram(
+    match refusal::of_datagram(
         state.last,
         clock,
         endpoint,
         memory.len(),
         room.len(),
         datagram,
-    );
-    if number != 0 {
-        return Answer {
-            number,
-            state,
-            length: 0,
-            omitted: 0,
-            dropped: 0,
-        };
+    ) {
+        Err(refusal) => Answer::refused(refusal, state),
+        Ok(()) => exchange::datagram::handle(
+            state, memory, room, datagram, clock, endpoint, unicast, *randoms,
+        ),
     }
-    exchange::datagram::handle(
-        state, memory, room, datagram, clock, endpoint, unicast, *randoms,
-    )
 }
 
 // Does what is due on the endpoint: removes peers that fell silent, publishes our data anew before it is too old, and writes what is to be sent to the front
@@ -109,15 +96,10 @@ pub fn pingvratha_tick(
     requires { AsLeft state memory.old }
     ensures { Ticks clock endpoint randoms.now state memory.old room.old result memory.new room.new }
 {
-    let number = refusal::of_tick(state.last, clock, endpoint, memory.len(), room.len());
-    if number != 0 {
-        return Sent {
-            number,
-            state,
-            length: 0,
-        };
+    match refusal::of_tick(state.last, clock, endpoint, memory.len(), room.len()) {
+        Err(refusal) => Sent::refused(refusal, state),
+        Ok(()) => upkeep::tick::tick(state, memory, room, clock, endpoint, *randoms),
     }
-    upkeep::tick::tick(state, memory, room, clock, endpoint, *randoms)
 }
 
 // Chooses the endpoint's keep-alive interval in milliseconds: when ticks of the endpoint have sent nothing for so long, and a random delay of up to MOST_DELAY, one
@@ -134,20 +116,12 @@ pub fn pingvratha_keep_alive(
     requires { AsLeft state memory.old }
     ensures { Chooses clock endpoint interval randoms.now state memory.old result memory.new }
 {
-    let early = refusal::of_interval(state.last, clock, endpoint, interval, memory.len());
-    if early != 0 {
-        return Done {
-            number: early,
-            state,
-        };
-    }
-    let number = upkeep::choice::refusal(state, memory, clock, endpoint, interval);
-    if number != 0 {
-        return Done { number, state };
-    }
-    Done {
-        number: 0,
-        state: upkeep::choice::choose(state, memory, clock, endpoint, interval, *randoms),
+    match refusal::of_choice(state, memory, clock, endpoint, interval) {
+        Err(refusal) => Done::refused(refusal, state),
+        Ok(()) => Done {
+            number: 0,
+            state: upkeep::choice::choose(state, memory, clock, endpoint, interval, *randoms),
+        },
     }
 }
 
@@ -165,20 +139,17 @@ pub fn pingvratha_pay(
     requires { AsLeft state memory.old }
     ensures { Pays clock (payment_of household receipt amount) randoms.now state memory.old result memory.new }
 {
-    let early = refusal::of_household(state.last, clock, memory.len(), household);
-    if early != 0 {
-        return Done {
-            number: early,
-            state,
-        };
-    }
-    let number = accounts::pay::refusal(state, memory, clock, household, receipt, amount);
-    if number != 0 {
-        return Done { number, state };
-    }
-    Done {
-        number: 0,
-        state: accounts::pay::pay(state, memory, clock, household, receipt, amount, *randoms),
+    let payment = Payment {
+        household,
+        receipt,
+        amount,
+    };
+    match refusal::of_payment(state, memory, clock, payment) {
+        Err(refusal) => Done::refused(refusal, state),
+        Ok(()) => Done {
+            number: 0,
+            state: accounts::pay::pay(state, memory, clock, payment, *randoms),
+        },
     }
 }
 
@@ -192,12 +163,11 @@ pub fn pingvratha_purge(
     requires { AsLeft state memory.now }
     ensures { Purges clock randoms.now state memory.now result }
 {
-    let number = refusal::of_table(state.last, clock, memory.len());
-    if number != 0 {
-        return Done { number, state };
-    }
-    Done {
-        number: 0,
-        state: upkeep::purge::purge(state, memory, clock, *randoms),
+    match refusal::of_table(state.last, clock, memory.len()) {
+        Err(refusal) => Done::refused(refusal, state),
+        Ok(()) => Done {
+            number: 0,
+            state: upkeep::purge::purge(state, memory, clock, *randoms),
+        },
     }
 }

@@ -5,26 +5,25 @@ ghost use Rattle.model.specs.Invariant.{Midway};
 ghost use Rattle.node.specs.View.{state_of, Rep};
 ghost use Rattle.ledger.specs.declared.answers.Extent.{Extent};
 ghost use Rattle.ledger.specs.Promises.{AsLeft, Totals, SumsUp, Marks, Saves, Shows, ShowRefuses};
-ghost use Rattle.ledger.specs.Inner.{Summing};
+ghost use Rattle.ledger.specs.Inner.{Placed, Summing};
 
 use crate::answers::{Extent, Marked, Saved, Summed};
 use crate::refusal;
 use accounts::totals::{Whose, tally};
-use model::figures::{MOST_NODES, TABLE_BYTES};
-use model::numbers::{BUFFER_TOO_SMALL, NO_SUCH_NODE};
+use model::figures::TABLE_BYTES;
+use model::numbers::Refusal;
 use node::State;
 use reach::list::marked_nodes;
 use reach::reach;
-use table::{Found, find, meta_at, start_of};
+use table::{find, meta_at, start_of};
 
 // What is summed over the reachable nodes.
-fn summed(state: State, memory: &[u8], clock: u64, w: Whose) -> Summed
+fn summed(state: State, memory: &[u8], clock: u64, whose: Whose) -> Summed
     requires { Rep state memory.now × (Midway clock (state_of state memory.now) × (clock ≤ last_reading)) }
-    ensures { Summing w clock (state_of state memory.now) result }
+    ensures { Summing whose clock (state_of state memory.now) result }
 {
     let found = reach(state.table, memory, state.own, clock);
-    let marks = found.marks;
-    let t = tally(state.table, memory, marks, w);
+    let t = tally(state.table, memory, found.marks, whose);
     Summed {
         number: 0,
         value: t.value,
@@ -37,23 +36,10 @@ pub fn pingvratha_total(state: State, memory: &[u8], clock: u64, household: u32)
     requires { AsLeft state memory.now }
     ensures { Totals clock household state memory.now result }
 {
-    let number = refusal::of_household(state.last, clock, memory.len(), household);
-    if number != 0 {
-        return Summed {
-            number,
-            value: 0,
-            unread: 0,
-        };
+    match refusal::of_household(state.last, clock, memory.len(), household) {
+        Err(refusal) => Summed::refused(refusal),
+        Ok(()) => summed(state, memory, clock, Whose::Of(household)),
     }
-    summed(
-        state,
-        memory,
-        clock,
-        Whose {
-            all: false,
-            household,
-        },
-    )
 }
 
 // The sum over all households.
@@ -61,23 +47,10 @@ pub fn pingvratha_sum(state: State, memory: &[u8], clock: u64) -> Summed
     requires { AsLeft state memory.now }
     ensures { SumsUp clock state memory.now result }
 {
-    let number = refusal::of_table(state.last, clock, memory.len());
-    if number != 0 {
-        return Summed {
-            number,
-            value: 0,
-            unread: 0,
-        };
+    match refusal::of_table(state.last, clock, memory.len()) {
+        Err(refusal) => Summed::refused(refusal),
+        Ok(()) => summed(state, memory, clock, Whose::All),
     }
-    summed(
-        state,
-        memory,
-        clock,
-        Whose {
-            all: true,
-            household: 0,
-        },
-    )
 }
 
 // The reachable nodes, whose payments are summed, how far they go, and the network digest.
@@ -85,21 +58,14 @@ pub fn pingvratha_marks(state: State, memory: &[u8], clock: u64) -> Marked
     requires { AsLeft state memory.now }
     ensures { Marks clock state memory.now result }
 {
-    let number = refusal::of_table(state.last, clock, memory.len());
-    if number != 0 {
-        return Marked {
-            number,
-            count: 0,
-            levels: 0,
-            nodes: [0; MOST_NODES],
-            digest: [0; 16],
-        };
+    if let Err(refusal) = refusal::of_table(state.last, clock, memory.len()) {
+        return Marked::refused(refusal);
     }
     let found = reach(state.table, memory, state.own, clock);
-    let marks = found.marks;
-    let digest = found.digest;
-    let n = marked_nodes(state.table, marks);
+    let n = marked_nodes(state.table, found.marks);
+    // Tried and the check does not read it: an array field that goes straight into a literal.
     let nodes = n.list;
+    let digest = found.digest;
     Marked {
         number: 0,
         count: n.count,
@@ -114,12 +80,24 @@ pub fn pingvratha_save(state: State, memory: &[u8], snapshot: &mut [u8], clock: 
     requires { AsLeft state memory.now }
     ensures { Saves clock state memory.now snapshot.old result snapshot.new }
 {
-    let number = refusal::of_save(state.last, clock, memory.len(), snapshot.len());
-    if number != 0 {
-        return Saved { number, length: 0 };
+    match refusal::of_save(state.last, clock, memory.len(), snapshot.len()) {
+        Err(refusal) => Saved::refused(refusal),
+        Ok(()) => {
+            let length = snapshot::save::save(state.table, memory, state.own, clock, snapshot);
+            Saved { number: 0, length }
+        }
     }
-    let length = snapshot::save::save(state.table, memory, state.own, clock, snapshot);
-    Saved { number: 0, length }
+}
+
+// The node's place in the table, reachable or not.
+fn place_of(state: State, memory: &[u8], node: u32) -> Result<usize, Refusal>
+    requires { AsLeft state memory.now }
+    ensures { Placed node state memory.now result }
+{
+    if memory.len() < TABLE_BYTES {
+        return Err(Refusal::BufferTooSmall);
+    }
+    find(state.table, node).or(Err(Refusal::NoSuchNode))
 }
 
 // Where a node's data stand in the table memory, reachable or not. Length 0 for empty data, and for a refusal, whose number show_refusal gives.
@@ -127,26 +105,18 @@ pub fn pingvratha_show(state: State, memory: &[u8], node: u32) -> Extent
     requires { AsLeft state memory.now }
     ensures { Shows node state memory.now result }
 {
-    if memory.len() < TABLE_BYTES {
-        return Extent {
-            start: 0,
-            length: 0,
-        };
-    }
-    let found = find(state.table, node);
-    match found {
-        Found::At(i) => {
-            let e = meta_at(state.table, i);
-            let len = e.len as usize;
-            Extent {
-                start: start_of(e),
-                length: len,
-            }
-        }
-        Found::Missing(_) => Extent {
+    match place_of(state, memory, node) {
+        Err(_) => Extent {
             start: 0,
             length: 0,
         },
+        Ok(i) => {
+            let e = meta_at(state.table, i);
+            Extent {
+                start: start_of(e),
+                length: e.len as usize,
+            }
+        }
     }
 }
 
@@ -155,13 +125,9 @@ pub fn pingvratha_show_refusal(state: State, memory: &[u8], node: u32) -> u32
     requires { AsLeft state memory.now }
     ensures { ShowRefuses node state memory.now result }
 {
-    if memory.len() < TABLE_BYTES {
-        return BUFFER_TOO_SMALL;
-    }
-    let found = find(state.table, node);
-    match found {
-        Found::At(_) => 0,
-        Found::Missing(_) => NO_SUCH_NODE,
+    match place_of(state, memory, node) {
+        Err(refusal) => refusal.number(),
+        Ok(_) => 0,
     }
 }
 
@@ -171,7 +137,5 @@ pub fn show<'a>(state: State, memory: &'a [u8], node: u32) -> &'a [u8]
     ensures { (x : Extent) × Shows node state memory.now x × (result.now ≡ take x.length (drop x.start memory.now)) × (result.ref_ptr.0 ≡ memory.entry.ref_ptr.0) × (result.ref_ptr.1 ≡ x.start + memory.entry.ref_ptr.1) }
 {
     let x = pingvratha_show(state, memory, node);
-    let a = x.start;
-    let b = a + x.length;
-    &memory[a..b]
+    &memory[x.start..x.start + x.length]
 }

@@ -1,130 +1,150 @@
-// The numbers that a call may answer, the first of its order that applies (document 01, Numbers a call may answer; document 02).
-ghost use Rattle.std.specs.Prelude.{◌≡◌, [], ◌∷◌};
+// Why a call is refused, the first of its order that applies (document 01, Numbers a call may answer; document 02).
+ghost use Rattle.std.specs.Prelude.{◌≡◌, [], ◌∷◌, length};
+ghost use Rattle.wire.specs.Answers.{told};
 ghost use Rattle.model.specs.Figures.{most_bytes, snapshot_bytes};
+ghost use Rattle.model.specs.Numbers.{number_of};
 ghost use Rattle.model.specs.State.{State as ModelState};
 ghost use Rattle.model.specs.Refusals.{first_of, late, back, no_such_endpoint, no_interval, small_table, small_room, long, no_row, no_household};
+ghost use Rattle.model.specs.KeepAlive.{refusal_keep_alive};
+ghost use Rattle.model.specs.Pay.{refusal_pay};
+ghost use Rattle.node.specs.View.{state_of};
+ghost use Rattle.ledger.specs.Promises.{AsLeft};
 
 use model::figures::{
     LAST_READING, LEAST_HOUSEHOLD, LEAST_KEEP_ALIVE, MOST_BYTES, MOST_ENDPOINTS, MOST_HOUSEHOLD,
     MOST_KEEP_ALIVE, SNAPSHOT_BYTES, TABLE_BYTES,
 };
-use model::numbers::{
-    BUFFER_TOO_SMALL, CLOCK_BACK, CLOCK_TOO_HIGH, DATAGRAM_MALFORMED, DATAGRAM_TOO_LONG,
-    NO_SUCH_ENDPOINT, NO_SUCH_HOUSEHOLD, NO_SUCH_INTERVAL,
-};
+use model::numbers::Refusal;
+use node::State;
+use wire::payment::Payment;
 use wire::row::is_row;
 
 // Endpoints are numbered from 1 on.
 const LAST_ENDPOINT: u32 = MOST_ENDPOINTS as u32;
 
+// 1 and 2: the clock.
+fn of_clock(last: u64, clock: u64) -> Result<(), Refusal>
+    ensures { (s : ModelState) → s.last ≡ last → number_of result ≡ first_of (late clock ∷ back clock s ∷ []) }
+{
+    if LAST_READING < clock {
+        return Err(Refusal::ClockTooHigh);
+    }
+    if clock < last {
+        return Err(Refusal::ClockBack);
+    }
+    Ok(())
+}
+
 // 1 and 4: what begins has no reading before it.
-pub fn of_start(clock: u64, table: usize) -> u32
-    ensures { result ≡ first_of (late clock ∷ small_table table ∷ []) }
+pub fn of_start(clock: u64, table: usize) -> Result<(), Refusal>
+    ensures { number_of result ≡ first_of (late clock ∷ small_table table ∷ []) }
 {
     of_table(0, clock, table)
 }
 
 // 1, 2 and 4: the clock, and the table memory.
-pub fn of_table(last: u64, clock: u64, table: usize) -> u32
-    ensures { (s : ModelState) → s.last ≡ last → result ≡ first_of (late clock ∷ back clock s ∷ small_table table ∷ []) }
+pub fn of_table(last: u64, clock: u64, table: usize) -> Result<(), Refusal>
+    ensures { (s : ModelState) → s.last ≡ last → number_of result ≡ first_of (late clock ∷ back clock s ∷ small_table table ∷ []) }
 {
-    if LAST_READING < clock {
-        return CLOCK_TOO_HIGH;
-    }
-    if clock < last {
-        return CLOCK_BACK;
-    }
+    of_clock(last, clock)?;
     if table < TABLE_BYTES {
-        return BUFFER_TOO_SMALL;
+        return Err(Refusal::BufferTooSmall);
     }
-    0
+    Ok(())
 }
 
 // 1, 2, 4 and 7: a household besides.
-pub fn of_household(last: u64, clock: u64, table: usize, household: u32) -> u32
-    ensures { (s : ModelState) → s.last ≡ last → result ≡ first_of (late clock ∷ back clock s ∷ small_table table ∷ no_household household ∷ []) }
+pub fn of_household(last: u64, clock: u64, table: usize, household: u32) -> Result<(), Refusal>
+    ensures { (s : ModelState) → s.last ≡ last → number_of result ≡ first_of (late clock ∷ back clock s ∷ small_table table ∷ no_household household ∷ []) }
 {
-    let early = of_table(last, clock, table);
-    if early != 0 {
-        return early;
+    of_table(last, clock, table)?;
+    if !(LEAST_HOUSEHOLD..=MOST_HOUSEHOLD).contains(&household) {
+        return Err(Refusal::NoSuchHousehold);
     }
-    if household < LEAST_HOUSEHOLD {
-        return NO_SUCH_HOUSEHOLD;
-    }
-    if MOST_HOUSEHOLD < household {
-        return NO_SUCH_HOUSEHOLD;
-    }
-    0
+    Ok(())
+}
+
+// 1, 2, 4, 7, 8 and 9: what our own data say of a payment besides.
+pub fn of_payment(state: State, memory: &[u8], clock: u64, payment: Payment) -> Result<(), Refusal>
+    requires { AsLeft state memory.now }
+    ensures { number_of result ≡ refusal_pay clock (told payment) (length memory.now) (state_of state memory.now) }
+{
+    of_household(state.last, clock, memory.len(), payment.household)?;
+    accounts::pay::refusal(state, memory, clock, payment)
 }
 
 // 1, 2 and 4: the clock, the table memory and the room for a snapshot.
-pub fn of_save(last: u64, clock: u64, table: usize, room: usize) -> u32
-    ensures { (s : ModelState) → s.last ≡ last → result ≡ first_of (late clock ∷ back clock s ∷ small_room table room snapshot_bytes ∷ []) }
+pub fn of_save(last: u64, clock: u64, table: usize, room: usize) -> Result<(), Refusal>
+    ensures { (s : ModelState) → s.last ≡ last → number_of result ≡ first_of (late clock ∷ back clock s ∷ small_room table room snapshot_bytes ∷ []) }
 {
-    let early = of_table(last, clock, table);
-    if early != 0 {
-        return early;
-    }
+    of_table(last, clock, table)?;
     if room < SNAPSHOT_BYTES {
-        return BUFFER_TOO_SMALL;
+        return Err(Refusal::BufferTooSmall);
     }
-    0
+    Ok(())
 }
 
 // 1 to 3: the clock, and the endpoint.
-pub fn of_endpoint(last: u64, clock: u64, endpoint: u32) -> u32
-    ensures { (s : ModelState) → s.last ≡ last → result ≡ first_of (late clock ∷ back clock s ∷ no_such_endpoint endpoint ∷ []) }
+pub fn of_endpoint(last: u64, clock: u64, endpoint: u32) -> Result<(), Refusal>
+    ensures { (s : ModelState) → s.last ≡ last → number_of result ≡ first_of (late clock ∷ back clock s ∷ no_such_endpoint endpoint ∷ []) }
 {
-    if LAST_READING < clock {
-        return CLOCK_TOO_HIGH;
+    of_clock(last, clock)?;
+    if !(1..=LAST_ENDPOINT).contains(&endpoint) {
+        return Err(Refusal::NoSuchEndpoint);
     }
-    if clock < last {
-        return CLOCK_BACK;
-    }
-    if endpoint < 1 {
-        return NO_SUCH_ENDPOINT;
-    }
-    if LAST_ENDPOINT < endpoint {
-        return NO_SUCH_ENDPOINT;
-    }
-    0
+    Ok(())
 }
 
 // 1, 2, 3, 12 and 4: a keep-alive interval and the table memory besides.
-pub fn of_interval(last: u64, clock: u64, endpoint: u32, interval: u32, table: usize) -> u32
-    ensures { (s : ModelState) → s.last ≡ last → result ≡ first_of (late clock ∷ back clock s ∷ no_such_endpoint endpoint ∷ no_interval interval ∷ small_table table ∷ []) }
+pub fn of_interval(
+    last: u64,
+    clock: u64,
+    endpoint: u32,
+    interval: u32,
+    table: usize,
+) -> Result<(), Refusal>
+    ensures { (s : ModelState) → s.last ≡ last → number_of result ≡ first_of (late clock ∷ back clock s ∷ no_such_endpoint endpoint ∷ no_interval interval ∷ small_table table ∷ []) }
 {
-    let early = of_endpoint(last, clock, endpoint);
-    if early != 0 {
-        return early;
-    }
-    if interval < LEAST_KEEP_ALIVE {
-        return NO_SUCH_INTERVAL;
-    }
-    if MOST_KEEP_ALIVE < interval {
-        return NO_SUCH_INTERVAL;
+    of_endpoint(last, clock, endpoint)?;
+    if !(LEAST_KEEP_ALIVE..=MOST_KEEP_ALIVE).contains(&interval) {
+        return Err(Refusal::NoSuchInterval);
     }
     if table < TABLE_BYTES {
-        return BUFFER_TOO_SMALL;
+        return Err(Refusal::BufferTooSmall);
     }
-    0
+    Ok(())
+}
+
+// 1, 2, 3, 12, 4 and 9: what our own data say of a choice besides.
+pub fn of_choice(
+    state: State,
+    memory: &[u8],
+    clock: u64,
+    endpoint: u32,
+    interval: u32,
+) -> Result<(), Refusal>
+    requires { AsLeft state memory.now }
+    ensures { number_of result ≡ refusal_keep_alive clock endpoint interval (length memory.now) (state_of state memory.now) }
+{
+    of_interval(state.last, clock, endpoint, interval, memory.len())?;
+    upkeep::choice::refusal(state, memory, clock, endpoint, interval)
 }
 
 // 1 to 4: lent memory for what is sent besides.
-pub fn of_tick(last: u64, clock: u64, endpoint: u32, table: usize, room: usize) -> u32
-    ensures { (s : ModelState) → s.last ≡ last → result ≡ first_of (late clock ∷ back clock s ∷ no_such_endpoint endpoint ∷ small_room table room most_bytes ∷ []) }
+pub fn of_tick(
+    last: u64,
+    clock: u64,
+    endpoint: u32,
+    table: usize,
+    room: usize,
+) -> Result<(), Refusal>
+    ensures { (s : ModelState) → s.last ≡ last → number_of result ≡ first_of (late clock ∷ back clock s ∷ no_such_endpoint endpoint ∷ small_room table room most_bytes ∷ []) }
 {
-    let early = of_endpoint(last, clock, endpoint);
-    if early != 0 {
-        return early;
+    of_endpoint(last, clock, endpoint)?;
+    if table < TABLE_BYTES || room < MOST_BYTES {
+        return Err(Refusal::BufferTooSmall);
     }
-    if table < TABLE_BYTES {
-        return BUFFER_TOO_SMALL;
-    }
-    if room < MOST_BYTES {
-        return BUFFER_TOO_SMALL;
-    }
-    0
+    Ok(())
 }
 
 // 1 to 6: the datagram besides.
@@ -135,18 +155,15 @@ pub fn of_datagram(
     table: usize,
     room: usize,
     datagram: &[u8],
-) -> u32
-    ensures { (s : ModelState) → s.last ≡ last → result ≡ first_of (late clock ∷ back clock s ∷ no_such_endpoint endpoint ∷ small_room table room most_bytes ∷ long datagram.now ∷ no_row datagram.now ∷ []) }
+) -> Result<(), Refusal>
+    ensures { (s : ModelState) → s.last ≡ last → number_of result ≡ first_of (late clock ∷ back clock s ∷ no_such_endpoint endpoint ∷ small_room table room most_bytes ∷ long datagram.now ∷ no_row datagram.now ∷ []) }
 {
-    let early = of_tick(last, clock, endpoint, table, room);
-    if early != 0 {
-        return early;
-    }
+    of_tick(last, clock, endpoint, table, room)?;
     if MOST_BYTES < datagram.len() {
-        return DATAGRAM_TOO_LONG;
+        return Err(Refusal::DatagramTooLong);
     }
     if !is_row(datagram) {
-        return DATAGRAM_MALFORMED;
+        return Err(Refusal::DatagramMalformed);
     }
-    0
+    Ok(())
 }

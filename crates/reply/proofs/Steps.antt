@@ -1,16 +1,14 @@
 -- Steps on the work: the model's work by its parts, and how one step follows another. Layers above cite these laws and open no `work_of`.
 -- Assumes nothing.
 use mathlib.Core.Path.{◌≡◌, refl, sym, ap, ◌∙◌, subst}
-use mathlib.Core.Bool.{Bool, true, false}
 use mathlib.Core.List.{List, ◌++◌}
 use mathlib.Core.Option.{none, some}
+use Rattle.std.specs.Prelude.{Option as Answer, Some, None}
 use Prim.Native.Nat.{ℕ, ◌+◌, ◌-◌, ◌≤◌}
 use native.Mathlib.Omega.{arith}
 use lib.ListN.{length, take, length-set}
-use borrow.Author.Tests.{ne_eqb}
 use lib.Seq.{length-take-le, get_or-set_same, set-set}
 use Rattle.base.specs.Memory.{written}
-use Rattle.base.proofs.Tests.{no_way}
 use Rattle.base.proofs.Lists.{drop_later}
 use Rattle.base.proofs.Written.{written-length, written-taken, written-left}
 use Rattle.model.specs.Figures.{most_bytes}
@@ -32,8 +30,8 @@ use Rattle.node.proofs.Moves.{endpoint_moved}
 use Rattle.reply.specs.declared.Context.{Context}
 use Rattle.reply.specs.declared.Sender.{Sender}
 use Rattle.reply.specs.declared.Progress.{Progress}
-use Rattle.reply.specs.Updates.{with_local}
-use Rattle.reply.specs.View.{Work, gather, work_of, Sound, most_counted, Ready, Stepped, Markable, Refreshed, Open}
+use Rattle.reply.specs.Updates.{with_local, with_reached}
+use Rattle.reply.specs.View.{Work, gather, work_of, Sound, most_counted, Ready, Stepped, Markable, Open}
 
 -- ---- the model's work by its parts
 
@@ -50,11 +48,11 @@ module _ (w : Work) (m r : List ℕ) where
   unfolding work_of state_of
   work_table = refl
 
-  pub work_known : w.sender.known ≡ true → (work_of w m r).sender ≡ some (record { node = w.sender.node; endpoint = w.sender.endpoint })
+  pub work_known : (f : Sender) → w.sender ≡ Some f → (work_of w m r).sender ≡ some (record { node = f.node; endpoint = f.endpoint })
   unfolding work_of
-  work_known e = rw e
+  work_known f e = rw e
 
-  pub work_unknown : w.sender.known ≡ false → (work_of w m r).sender ≡ none
+  pub work_unknown : w.sender ≡ None → (work_of w m r).sender ≡ none
   unfolding work_of
   work_unknown e = rw e
 
@@ -76,35 +74,35 @@ module _ (w : Work) (m r : List ℕ) where
 
 -- ---- the work with another part
 
--- the state; `b` says whether marks and digest are still those of its table
-abbrev pub put_state : State → Bool → Work → Work
-put_state s b w = record { state = s; sender = w.sender; headed = w.headed; used = w.used; omitted = w.omitted; dropped = w.dropped; fresh = b; reached = w.reached }
+-- the state; `g` are marks and digest, if they are still those of its table
+abbrev pub put_state : State → Answer Reached → Work → Work
+put_state s g w = record { state = s; sender = w.sender; used = w.used; omitted = w.omitted; dropped = w.dropped; reached = g }
 
 abbrev pub put_sender : Sender → Work → Work
-put_sender f w = record { state = w.state; sender = f; headed = w.headed; used = w.used; omitted = w.omitted; dropped = w.dropped; fresh = w.fresh; reached = w.reached }
+put_sender f w = record { state = w.state; sender = Some f; used = w.used; omitted = w.omitted; dropped = w.dropped; reached = w.reached }
 
 abbrev pub put_used : ℕ → Work → Work
-put_used n w = record { state = w.state; sender = w.sender; headed = true; used = n; omitted = w.omitted; dropped = w.dropped; fresh = w.fresh; reached = w.reached }
+put_used n w = record { state = w.state; sender = w.sender; used = n; omitted = w.omitted; dropped = w.dropped; reached = w.reached }
 
 abbrev pub put_omitted : ℕ → Work → Work
-put_omitted n w = record { state = w.state; sender = w.sender; headed = w.headed; used = w.used; omitted = n; dropped = w.dropped; fresh = w.fresh; reached = w.reached }
+put_omitted n w = record { state = w.state; sender = w.sender; used = w.used; omitted = n; dropped = w.dropped; reached = w.reached }
 
 abbrev pub put_dropped : ℕ → Work → Work
-put_dropped n w = record { state = w.state; sender = w.sender; headed = w.headed; used = w.used; omitted = w.omitted; dropped = n; fresh = w.fresh; reached = w.reached }
+put_dropped n w = record { state = w.state; sender = w.sender; used = w.used; omitted = w.omitted; dropped = n; reached = w.reached }
 
 -- marks and digest, worked out
 abbrev pub put_reached : Reached → Work → Work
-put_reached g w = record { state = w.state; sender = w.sender; headed = w.headed; used = w.used; omitted = w.omitted; dropped = w.dropped; fresh = true; reached = g }
+put_reached g w = record { state = w.state; sender = w.sender; used = w.used; omitted = w.omitted; dropped = w.dropped; reached = Some g }
 
 module _ (w : Work) (m r : List ℕ) where
-  pub state-put : (s : State) (b : Bool) (m' : List ℕ) → work_of (put_state s b w) m' r ≡ with_state (state_of s m') (work_of w m r)
+  pub state-put : (s : State) (g : Answer Reached) (m' : List ℕ) → work_of (put_state s g w) m' r ≡ with_state (state_of s m') (work_of w m r)
   unfolding work_of
-  state-put s b m' = refl
+  state-put s g m' = refl
 
   -- the sender that stands in the Node Endpoint TLV
-  pub sender-put : (f : Sender) → f.known ≡ true → work_of (put_sender f w) m r ≡ with_sender (record { node = f.node; endpoint = f.endpoint }) (work_of w m r)
+  pub sender-put : (f : Sender) → work_of (put_sender f w) m r ≡ with_sender (record { node = f.node; endpoint = f.endpoint }) (work_of w m r)
   unfolding work_of
-  sender-put f e = rw e
+  sender-put f = refl
 
   pub used-put : (n : ℕ) (r' : List ℕ) → work_of (put_used n w) m r' ≡ with_out (take n r') (work_of w m r)
   unfolding work_of
@@ -126,27 +124,27 @@ module _ (w : Work) (m r : List ℕ) where
 
 module _ {clock : ℕ} {w : Work} {m r : List ℕ} (h : Sound clock w m r) where
   -- another state over the same table: marks and digest stay
-  pub sound-state : (s : State) → Rep s m → s.own ≡ w.state.own → s.table ≡ w.state.table → Sound clock (put_state s w.fresh w) m r
-  sound-state s k o t = record { rep = k; used = h.used; room = h.room; headed = h.headed; cached = λ f. rw (o, t) (h.cached f) }
+  pub sound-state : (s : State) → Rep s m → s.own ≡ w.state.own → s.table ≡ w.state.table → Sound clock (put_state s w.reached w) m r
+  sound-state s k o t = record { rep = k; used = h.used; room = h.room; cached = λ g f. rw (o, t) (h.cached g f) }
 
   -- another table: they are to be worked out anew
-  pub sound-anew : (s : State) (m' : List ℕ) → Rep s m' → Sound clock (put_state s false w) m' r
-  sound-anew s m' k = record { rep = k; used = h.used; room = h.room; headed = h.headed; cached = λ f. no_way false f refl }
+  pub sound-anew : (s : State) (m' : List ℕ) → Rep s m' → Sound clock (put_state s None w) m' r
+  sound-anew s m' k = record { rep = k; used = h.used; room = h.room; cached = λ g f. cc }
 
   pub sound-sender : (f : Sender) → Sound clock (put_sender f w) m r
-  sound-sender f = record { rep = h.rep; used = h.used; room = h.room; headed = h.headed; cached = h.cached }
+  sound-sender f = record { rep = h.rep; used = h.used; room = h.room; cached = h.cached }
 
   pub sound-omitted : (n : ℕ) → Sound clock (put_omitted n w) m r
-  sound-omitted n = record { rep = h.rep; used = h.used; room = h.room; headed = h.headed; cached = h.cached }
+  sound-omitted n = record { rep = h.rep; used = h.used; room = h.room; cached = h.cached }
 
   pub sound-dropped : (n : ℕ) → Sound clock (put_dropped n w) m r
-  sound-dropped n = record { rep = h.rep; used = h.used; room = h.room; headed = h.headed; cached = h.cached }
+  sound-dropped n = record { rep = h.rep; used = h.used; room = h.room; cached = h.cached }
 
-  pub sound-used : (n : ℕ) (r' : List ℕ) → n ≤ most_bytes → ¬ (n ≡ 0) → length r' ≡ length r → Sound clock (put_used n w) m r'
-  sound-used n r' p z e = record { rep = h.rep; used = p; room = rw e h.room; headed = rw (ne_eqb n 0 z); cached = h.cached }
+  pub sound-used : (n : ℕ) (r' : List ℕ) → n ≤ most_bytes → length r' ≡ length r → Sound clock (put_used n w) m r'
+  sound-used n r' p e = record { rep = h.rep; used = p; room = rw e h.room; cached = h.cached }
 
   pub sound-reached : (g : Reached) → Reaching w.state.own clock (view w.state.table m) g → Sound clock (put_reached g w) m r
-  sound-reached g k = record { rep = h.rep; used = h.used; room = h.room; headed = h.headed; cached = λ f. k }
+  sound-reached g k = record { rep = h.rep; used = h.used; room = h.room; cached = λ x f. let e : g ≡ x = cc in subst (Reaching w.state.own clock (view w.state.table m)) e k }
 
 -- ---- one step, and the next
 
@@ -228,17 +226,17 @@ stepped_then {w = w} {m = m} {v = v} h {u = u} {m'' = m''} n =
 module _ {c : Context} {w : Work} {m r : List ℕ} (h : Sound c.clock w m r) (f : ModelWork → ModelWork) where
   -- the state, its table as it was
   pub stepped_kept : (a : ModelState) (s : State) → Moved a m s m → s.own ≡ w.state.own → s.table ≡ w.state.table
-      → f (work_of w m r) ≡ with_state a (work_of w m r) → Stepped c 0 f w m r (put_state s w.fresh w) m r
+      → f (work_of w m r) ≡ with_state a (work_of w m r) → Stepped c 0 f w m r (put_state s w.reached w) m r
   stepped_kept a s k o t e =
-      stepped_still 0 f (put_state s w.fresh w) (state-put w m r s w.fresh m ∙ ap (λ (x : ModelState). with_state x (work_of w m r)) k.is ∙ sym e)
+      stepped_still 0 f (put_state s w.reached w) (state-put w m r s w.reached m ∙ ap (λ (x : ModelState). with_state x (work_of w m r)) k.is ∙ sym e)
       (sound-state h s k.rep o t) (omega arith) (omega arith) refl t
 
   -- the state with its table
   pub stepped-anew : (a : ModelState) (s : State) (m' : List ℕ) → Published a w.state m s m'
-      → f (work_of w m r) ≡ with_state a (work_of w m r) → Stepped c 0 f w m r (put_state s false w) m' r
+      → f (work_of w m r) ≡ with_state a (work_of w m r) → Stepped c 0 f w m r (put_state s None w) m' r
   stepped-anew a s m' k e =
       record {
-        is = state-put w m r s false m' ∙ ap (λ (x : ModelState). with_state x (work_of w m r)) k.moved.is ∙ sym e;
+        is = state-put w m r s None m' ∙ ap (λ (x : ModelState). with_state x (work_of w m r)) k.moved.is ∙ sym e;
         sound = sound-anew h s m' k.moved.rep;
         omitted = omega arith;
         dropped = omega arith;
@@ -251,10 +249,10 @@ module _ {c : Context} {w : Work} {m r : List ℕ} (h : Sound c.clock w m r) (f 
       }
 
   -- the sender
-  pub stepped_sender : (s : Sender) → s.known ≡ true → f (work_of w m r) ≡ with_sender (record { node = s.node; endpoint = s.endpoint }) (work_of w m r)
+  pub stepped_sender : (s : Sender) → f (work_of w m r) ≡ with_sender (record { node = s.node; endpoint = s.endpoint }) (work_of w m r)
       → Stepped c 0 f w m r (put_sender s w) m r
-  stepped_sender s k e =
-      stepped_still 0 f (put_sender s w) (sender-put w m r s k ∙ sym e) (sound-sender h s) (omega arith) (omega arith) refl refl
+  stepped_sender s e =
+      stepped_still 0 f (put_sender s w) (sender-put w m r s ∙ sym e) (sound-sender h s) (omega arith) (omega arith) refl refl
 
   -- a reply left out
   pub stepped_omitted : f (work_of w m r) ≡ omit_one (work_of w m r) → Stepped c 1 f w m r (put_omitted (w.omitted + 1) w) m r
@@ -267,14 +265,14 @@ module _ {c : Context} {w : Work} {m r : List ℕ} (h : Sound c.clock w m r) (f 
       stepped_still 1 f (put_dropped (w.dropped + 1) w) (dropped-put w m r ∙ sym e) (sound-dropped h (w.dropped + 1)) (omega arith) (omega arith) refl refl
 
   -- the bytes x written to the room
-  pub stepped_written : (x r' : List ℕ) (n : ℕ) → r' ≡ written r w.used x → n ≡ w.used + length x → n ≤ most_bytes → ¬ (n ≡ 0)
+  pub stepped_written : (x r' : List ℕ) (n : ℕ) → r' ≡ written r w.used x → n ≡ w.used + length x → n ≤ most_bytes
       → f (work_of w m r) ≡ with_out ((work_of w m r).out ++ x) (work_of w m r) → Stepped c 0 f w m r (put_used n w) m r'
-  stepped_written x r' n k q p y e =
+  stepped_written x r' n k q p e =
       let l : w.used + length x ≤ length r = omega (arith, h.room) in
       let z : length r' ≡ length r = rw k (written-length r x w.used l) in
       record {
         is = used-put w m r n r' ∙ ap (λ (o : List ℕ). with_out o (work_of w m r)) (rw (q, work_out w m r) (written-taken r r' x w.used k l)) ∙ sym e;
-        sound = sound-used h n r' p y z;
+        sound = sound-used h n r' p z;
         omitted = omega arith;
         dropped = omega arith;
         wrote = kept-wrote w.state.table w.state.table m (stays_self w.state.table) h.rep.table;
@@ -314,7 +312,7 @@ pub ready_open : {c : Context} (b : State) {t : Table} (p : Peers) {d : Progress
 ready_open {c} b {t} p {d} {m} h =
     record {
       marks = record { kept = h.sound.rep.table; fits = rw (state-own (gathered c b t p d) m, state-table (gathered c b t p d) m) at h.midway.table; clock = h.clock; cached = h.sound.cached };
-      writable = record { used = h.sound.used; room = h.sound.room; headed = h.sound.headed };
+      writable = record { used = h.sound.used; room = h.sound.room };
       omitted = h.omitted;
       dropped = h.dropped;
       first = h.first;
@@ -323,40 +321,26 @@ ready_open {c} b {t} p {d} {m} h =
 
 -- ---- marks and digest worked out
 
-same_work : {f f' : Sender} {u u' o o' d d' : ℕ} {e e' : Endpoint} {a a' b b' : Bool} (c : Context) (s : State) (t : Table) (p : Peers) (g : Reached)
-    → e ≡ e' → f ≡ f' → a ≡ a' → u ≡ u' → o ≡ o' → d ≡ d' → b ≡ b'
-    → gather c s t p (record { local = e; sender = f; headed = a; used = u; omitted = o; dropped = d; fresh = b; reached = g })
-    ≡ gather c s t p (record { local = e'; sender = f'; headed = a'; used = u'; omitted = o'; dropped = d'; fresh = b'; reached = g })
-same_work c s t p g e1 e2 e3 e4 e5 e6 e7 = cc
-
-module _ {c : Context} {t : Table} {d : Progress} {m : List ℕ} {v : Progress} (h : Refreshed c t d m v) where
+module _ {c : Context} {t : Table} {d : Progress} {m : List ℕ} (g : Reached) (h : Reaching c.own c.clock (view t m) g) where
   -- the representation is kept
-  pub refreshed_marks : Markable c t d m → Markable c t v m
+  pub refreshed_marks : Markable c t d m → Markable c t (with_reached g d) m
   refreshed_marks k =
-      record { kept = k.kept; fits = k.fits; clock = k.clock; cached = λ e. h.reaching }
+      record { kept = k.kept; fits = k.fits; clock = k.clock; cached = λ x f. let e : g ≡ x = cc in subst (Reaching c.own c.clock (view t m)) e h }
 
-  pub refreshed_open : (r : List ℕ) → Open c t d m r → Open c t v m r
+  pub refreshed_open : (r : List ℕ) → Open c t d m r → Open c t (with_reached g d) m r
   refreshed_open r k =
       record {
         marks = refreshed_marks k.marks;
-        writable = record { used = rw h.used k.writable.used; room = k.writable.room; headed = rw (h.headed, h.used) k.writable.headed };
-        omitted = rw h.omitted k.omitted;
-        dropped = rw h.dropped k.dropped;
+        writable = record { used = k.writable.used; room = k.writable.room };
+        omitted = k.omitted;
+        dropped = k.dropped;
         first = k.first;
         fourth = k.fourth;
       }
 
-  module _ (b : State) (p : Peers) where
-    refreshed_is : gather c b t p v ≡ put_reached v.reached (gather c b t p d)
-    refreshed_is = same_work c b t p v.reached h.local h.sender h.headed h.used h.omitted h.dropped h.fresh
-
-    -- the model's work is the same
-    pub refreshed_work : (r : List ℕ) → work_of (gather c b t p v) m r ≡ work_of (gather c b t p d) m r
-    refreshed_work r = ap (λ (x : Work). work_of x m r) refreshed_is ∙ reached-put (gather c b t p d) m r v.reached
-
-    pub refreshed_sound : (r : List ℕ) → Sound c.clock (gather c b t p d) m r → Sound c.clock (gather c b t p v) m r
-    refreshed_sound r k = subst (λ (x : Work). Sound c.clock x m r) (sym refreshed_is) (sound-reached k v.reached h.reaching)
-
-    pub refreshed_stepped : (r : List ℕ) → Sound c.clock (gather c b t p d) m r → Stepped c 0 (λ x. x) (gather c b t p d) m r (gather c b t p v) m r
-    refreshed_stepped r k =
-        stepped_still 0 (λ x. x) (gather c b t p v) (refreshed_work r) (refreshed_sound r k) (omega (arith, h.omitted)) (omega (arith, h.dropped)) h.used refl
+-- the model's work is the same
+module _ {c : Context} {t : Table} (d : Progress) {m : List ℕ} (g : Reached) (h : Reaching c.own c.clock (view t m) g) where
+  pub refreshed_stepped : (b : State) (p : Peers) (r : List ℕ) → Sound c.clock (gather c b t p d) m r
+      → Stepped c 0 (λ x. x) (gather c b t p d) m r (gather c b t p (with_reached g d)) m r
+  refreshed_stepped b p r k =
+      stepped_still 0 (λ x. x) (gather c b t p (with_reached g d)) (reached-put (gather c b t p d) m r g) (sound-reached k g h) (omega arith) (omega arith) refl refl

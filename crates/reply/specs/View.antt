@@ -1,5 +1,6 @@
 -- The parts of a call between two TLVs as the model's work, and what a step on them promises. Assumes nothing.
-use Rattle.std.specs.Prelude.{◌≡◌, Bool, true, not, cond, List, map, ℕ, ◌+◌, ◌-◌, ◌≤◌, eqb, length, take, drop, set}
+use Rattle.std.specs.Prelude.{◌≡◌, Some, None, List, map, ℕ, ◌+◌, ◌-◌, ◌≤◌, length, take, drop, set}
+use Rattle.std.specs.Prelude.{Option as Answer}
 use Rattle.std.proofs.Math.Option.{Option, none, some}
 use Rattle.model.specs.Figures.{most_endpoints, most_bytes, table_bytes, last_reading}
 use Rattle.model.specs.Messages.{short_state}
@@ -19,21 +20,20 @@ use Rattle.reply.specs.declared.Progress.{Progress}
 abbrev pub context_of : Context → ModelContext
 context_of c = record { clock = c.clock; endpoint = c.endpoint; unicast = c.unicast; random = c.random; others = c.others }
 
-abbrev pub sender_of : Sender → Option ModelSender
-sender_of f = cond f.known (some (record { node = f.node; endpoint = f.endpoint })) none
+abbrev pub sender_of : Answer Sender → Option ModelSender
+sender_of (Some f) = some (record { node = f.node; endpoint = f.endpoint })
+sender_of None = none
 
 -- ---- the parts as one
 
 -- a state, and what a call keeps beside it
 pub record Work : Type 0 where
   pub state : State
-  pub sender : Sender
-  pub headed : Bool
+  pub sender : Answer Sender
   pub used : ℕ
   pub omitted : ℕ
   pub dropped : ℕ
-  pub fresh : Bool
-  pub reached : Reached
+  pub reached : Answer Reached
 
 -- table t, peers p and progress d of a call that began with the state b: what no TLV touches is b's
 abbrev pub gather : Context → State → Table → Peers → Progress → Work
@@ -41,11 +41,9 @@ gather c b t p d =
     record {
       state = record { own = c.own; last = b.last; table = t; peers = p; endpoints = set b.endpoints (c.endpoint - 1) d.local; digest = b.digest };
       sender = d.sender;
-      headed = d.headed;
       used = d.used;
       omitted = d.omitted;
       dropped = d.dropped;
-      fresh = d.fresh;
       reached = d.reached;
     }
 
@@ -54,13 +52,12 @@ unfoldable pub work_of : Work → List ℕ → List ℕ → ModelWork
 work_of w m r =
     record { state = state_of w.state m; sender = sender_of w.sender; out = take w.used r; omitted = w.omitted; dropped = w.dropped }
 
--- the representation: the state's, the room, our Node Endpoint TLV in front once there is a reply, and the marks kept from before are those of the table now
+-- the representation: the state's, the room, and the marks kept from before are those of the table now
 pub record Sound (clock : ℕ) (w : Work) (m r : List ℕ) : Type 0 where
   pub rep : Rep w.state m
   pub used : w.used ≤ most_bytes
   pub room : most_bytes ≤ length r
-  pub headed : w.headed ≡ not (eqb w.used 0)
-  pub cached : w.fresh ≡ true → Reaching w.state.own clock (view w.state.table m) w.reached
+  pub cached : (g : Reached) → w.reached ≡ Some g → Reaching w.state.own clock (view w.state.table m) g
 
 -- a datagram has at most 1,024 TLVs, each with at most 33 replies: a count stays far below the end of its type
 abbrev pub most_counted : ℕ
@@ -96,24 +93,12 @@ pub record Markable (c : Context) (t : Table) (d : Progress) (m : List ℕ) : Ty
   pub kept : Kept t m
   pub fits : TableFits c.own c.clock (view t m)
   pub clock : c.clock ≤ last_reading
-  pub cached : d.fresh ≡ true → Reaching c.own c.clock (view t m) d.reached
+  pub cached : (g : Reached) → d.reached ≡ Some g → Reaching c.own c.clock (view t m) g
 
--- the same progress, its marks and digest worked out
-pub record Refreshed (c : Context) (t : Table) (d : Progress) (m : List ℕ) (v : Progress) : Type 0 where
-  pub local : v.local ≡ d.local
-  pub sender : v.sender ≡ d.sender
-  pub headed : v.headed ≡ d.headed
-  pub used : v.used ≡ d.used
-  pub omitted : v.omitted ≡ d.omitted
-  pub dropped : v.dropped ≡ d.dropped
-  pub fresh : v.fresh ≡ true
-  pub reaching : Reaching c.own c.clock (view t m) v.reached
-
--- what a reply asks: the room, and our Node Endpoint TLV in front once something is written
+-- what a reply asks: the room
 pub record Writable (d : Progress) (r : List ℕ) : Type 0 where
   pub used : d.used ≤ most_bytes
   pub room : most_bytes ≤ length r
-  pub headed : d.headed ≡ not (eqb d.used 0)
 
 -- what a TLV asks: nothing of the peers
 pub record Open (c : Context) (t : Table) (d : Progress) (m r : List ℕ) : Type 0 where
@@ -128,7 +113,6 @@ pub record Open (c : Context) (t : Table) (d : Progress) (m r : List ℕ) : Type
 pub record Writes (c : Context) (k : ℕ) (f : ModelWork → ModelWork) (d : Progress) (r : List ℕ) (v : Progress) (r' : List ℕ) : Type 0 where
   pub sender : v.sender ≡ d.sender
   pub used : v.used ≤ most_bytes
-  pub headed : v.headed ≡ not (eqb v.used 0)
   pub omitted : v.omitted ≤ d.omitted + k
   pub room : length r' ≡ length r
   pub is : (b : State) (t : Table) (p : Peers) (m : List ℕ) → Sound c.clock (gather c b t p d) m r

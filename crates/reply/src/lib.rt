@@ -18,24 +18,21 @@ pub struct Context {
     pub others: bool,
 }
 
-// The sender: the latest Node Endpoint TLV; `known` once there was one.
+// The sender, as the latest Node Endpoint TLV names it.
 #[derive(Clone, Copy)]
 pub struct Sender {
-    pub known: bool,
     pub node: u32,
     pub endpoint: u32,
 }
 
-// What a call keeps beside table and peers: the endpoint it is on, the sender; whether our Node Endpoint TLV stands in front of the replies, the bytes
-// written, replies omitted and TLVs dropped; marks and digest while `fresh` is set.
+// What a call keeps beside table and peers: the endpoint it is on, the sender once there was one; the bytes
+// written, replies omitted and TLVs dropped; marks and digest, if they were worked out and the table is still the same.
 #[derive(Clone, Copy)]
 pub struct Progress {
     pub local: Endpoint,
-    pub sender: Sender,
-    pub headed: bool,
+    pub sender: Option<Sender>,
     pub used: usize,
     pub omitted: u32,
     pub dropped: u32,
-    pub fresh: bool,
-    pub reached: Reached,
+    pub reached: Option<Reached>,
 }

@@ -1,5 +1,5 @@
 // Replies into the lent room, and the requests among them.
-ghost use Rattle.std.specs.Prelude.{◌≡◌, cond, [], ◌++◌, ◌+◌, ◌≤◌, ◌<◌, length};
+ghost use Rattle.std.specs.Prelude.{◌≡◌, eqb, cond, [], ◌++◌, ◌+◌, ◌≤◌, ◌<◌, length};
 ghost use Rattle.base.specs.Bytes.{most_u32};
 ghost use Rattle.base.specs.Memory.{written};
 ghost use Rattle.model.specs.Figures.{most_endpoints, most_bytes, last_reading};
@@ -11,27 +11,24 @@ use crate::{Context, Progress};
 use base::memory::store;
 use message::{put_endpoint, request_network_tlv, request_node_tlv};
 use model::figures::{MOST_BYTES, REQUEST_GAP};
+use node::Endpoint;
 
-// The bytes that precede a reply: our Node Endpoint TLV precedes the first.
-fn head_size(headed: bool) -> usize
-    ensures { (result ≡ cond headed 0 12) × (result ≤ 12) }
+// The bytes that precede a reply after `used` bytes: our Node Endpoint TLV precedes the first.
+fn head_size(used: usize) -> usize
+    ensures { (result ≡ cond (eqb used 0) 12 0) × (result ≤ 12) }
 {
-    if headed {
-        return 0;
-    }
-    12
+    if used == 0 { 12 } else { 0 }
 }
 
 // What precedes a reply after `used` bytes; the place after it.
-fn put_head(room: &mut [u8], headed: bool, used: usize, own: u32, endpoint: u32) -> usize
-    requires { (used ≤ most_bytes) × (used + cond headed 0 12 ≤ length room.old) }
-    ensures { (result ≡ used + cond headed 0 12) × (room.new ≡ written room.old used (cond headed [] (endpoint_tlv own endpoint))) }
+fn put_head(room: &mut [u8], used: usize, own: u32, endpoint: u32) -> usize
+    requires { (used ≤ most_bytes) × (used + cond (eqb used 0) 12 0 ≤ length room.old) }
+    ensures { (result ≡ used + cond (eqb used 0) 12 0) × (room.new ≡ written room.old used (cond (eqb used 0) (endpoint_tlv own endpoint) [])) }
 {
-    if headed {
-        return used;
+    if used == 0 {
+        put_endpoint(room, used, own, endpoint);
     }
-    put_endpoint(room, used, own, endpoint);
-    used + 12
+    used + head_size(used)
 }
 
 // A reply TLV, given in two parts; omitted where it does not fit whole.
@@ -39,21 +36,22 @@ pub fn reply(d: Progress, room: &mut [u8], c: Context, front: &[u8], back: &[u8]
     requires { Writable d room.old × ((d.omitted < most_u32) × (length front.now + length back.now ≤ most_bytes)) }
     ensures { Writes c 1 (reply (context_of c) (front.now ++ back.now)) d room.old result room.new }
 {
-    let mut next = d;
     let used = d.used;
-    let headed = d.headed;
-    let need = head_size(headed) + front.len() + back.len();
+    let need = head_size(used) + front.len() + back.len();
     if MOST_BYTES - used < need {
-        next.omitted = d.omitted + 1;
-        return next;
+        return Progress {
+            omitted: d.omitted + 1,
+            ..d
+        };
     }
-    let at = put_head(room, headed, used, c.own, c.endpoint);
+    let at = put_head(room, used, c.own, c.endpoint);
     let mid = at + front.len();
     store(room, at, front);
     store(room, mid, back);
-    next.headed = true;
-    next.used = mid + back.len();
-    next
+    Progress {
+        used: mid + back.len(),
+        ..d
+    }
 }
 
 // A request for one node's state.
@@ -74,12 +72,13 @@ pub fn ask_network(d: Progress, mem: &[u8], room: &mut [u8], c: Context) -> Prog
         return d;
     }
     let tlv = request_network_tlv();
-    let mut v = reply(d, room, c, &tlv, &mem[0..0]);
+    let v = reply(d, room, c, &tlv, &mem[0..0]);
     if v.used == d.used {
         return v;
     }
-    let mut e = v.local;
-    e.next = c.clock + REQUEST_GAP;
-    v.local = e;
-    v
+    let local = Endpoint {
+        next: c.clock + REQUEST_GAP,
+        ..v.local
+    };
+    Progress { local, ..v }
 }

@@ -1,5 +1,5 @@
 // What requests are answered with: the network's state, and one node's.
-ghost use Rattle.std.specs.Prelude.{◌≡◌, true, ◌++◌, ◌+◌, ◌-◌, ◌≤◌, ◌<◌, min, length};
+ghost use Rattle.std.specs.Prelude.{◌≡◌, IsSome, ◌++◌, ◌+◌, ◌-◌, ◌≤◌, ◌<◌, min, length};
 ghost use Rattle.base.specs.Bytes.{big16, big32, most_u32};
 ghost use Rattle.model.specs.Figures.{most_nodes, most_age, data_limit, last_reading};
 ghost use Rattle.model.specs.Messages.{whole_state};
@@ -19,8 +19,7 @@ fn node_state_front(e: Entry, clock: u64, len: u16) -> [u8; 32]
     requires { (e.since ≤ clock) × ((clock ≤ last_reading) × ((len ≤ data_limit) × (length e.hash ≡ 16))) }
     ensures { result ≡ big16 5 ++ (big16 (28 + len) ++ (big32 e.id ++ (big32 e.seq ++ (big32 (min (e.age + (clock - e.since)) most_age) ++ e.hash)))) }
 {
-    let hash = e.hash;
-    state_front(e.id, e.seq, capped_age(e, clock), hash, len as usize)
+    state_front(e.id, e.seq, capped_age(e, clock), e.hash, len as usize)
 }
 
 // A Node State without data for each reachable node, ascending; `marks` are those of the table.
@@ -37,27 +36,24 @@ fn reply_states(
 {
     let count = t.count;
     let mut v = d;
-    let mut i = 0;
-    while i < count {
+    for i in 0..count {
         if marks[i] {
             let front = node_state_front(meta_at(t, i), c.clock, 0);
             v = reply(v, room, c, &front, &mem[0..0]);
         }
-        i += 1;
     }
     v
 }
 
 // Our network's state, and then each reachable node's.
 pub fn tell_network(d: Progress, t: Table, mem: &[u8], room: &mut [u8], c: Context) -> Progress
-    requires { Open c t d mem.now room.old × (d.fresh ≡ true) }
+    requires { Open c t d mem.now room.old × IsSome d.reached }
     ensures { Answers c 33 (on_request_network (context_of c)) t d mem.now room.old result room.new }
 {
-    let digest = d.reached.digest;
-    let marks = d.reached.marks;
-    let tlv = network_tlv(digest);
+    let reached = d.reached.unwrap();
+    let tlv = network_tlv(reached.digest);
     let v = reply(d, room, c, &tlv, &mem[0..0]);
-    reply_states(v, t, mem, room, c, marks)
+    reply_states(v, t, mem, room, c, reached.marks)
 }
 
 // The Node State, with data, of the node at place i.

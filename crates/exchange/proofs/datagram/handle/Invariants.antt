@@ -1,8 +1,6 @@
 -- The loop's invariant: what is left, handled from here, gives the whole answer.
 use mathlib.Core.Path.{◌≡◌}
-use mathlib.Core.Bool.{true}
-use Prim.Native.Nat.{◌-◌}
-use lib.ListN.{length}
+use Rattle.std.specs.Prelude.{IfSome}
 use Rattle.base.specs.Lists.{any}
 use Rattle.wire.specs.Row.{tlvs}
 use Rattle.model.specs.Receive.{about_other}
@@ -12,10 +10,11 @@ use Rattle.exchange.proofs.Tlvs.{Through}
 use Rattle.exchange.proofs.Datagrams.{call_in}
 use Rattle.exchange.proofs.datagram.handle.Given as goal
 
-abbrev pub invariant-loop-at : goal.invariant-loop-at
-invariant-loop-at l =
+abbrev pub invariant-loop-h : goal.invariant-loop-h
+invariant-loop-h l =
     let c : Context = call_in l.s l.datagram l.clock l.endpoint l.unicast l.randoms in
-    Through c l.datagram (gather c l.s l.initial.t l.initial.p l.initial.d) l.initial.mem l.initial.room l.at (gather c l.s l.t l.p l.d) l.mem l.room × (l.o.known ≡ true → l.o.found ≡ any (about_other l.s.own) (tlvs l.datagram))
-
-abbrev pub decreases-loop-at : goal.decreases-loop-at
-decreases-loop-at l = length l.datagram - l.at
+    record {
+      row : l.h-iterator.row.now ≡ l.datagram;
+      through : Through c l.datagram (gather c l.s l.initial.t l.initial.p l.initial.d) l.initial.mem l.initial.room l.h-iterator.at (gather c l.s l.t l.p l.d) l.mem l.room;
+      others : IfSome l.others (λ b. b ≡ any (about_other l.s.own) (tlvs l.datagram));
+    }

@@ -3,14 +3,8 @@ use Rattle.exchange.proofs.Peers.{told-dropped, told_greets}
 use Rattle.table.specs.declared.Entry.{Entry as Meta}
 use Rattle.exchange.proofs.peer.greet.Goals as goal
 
-pub own_place-i-requires : goal.own_place-i-requires
-own_place-i-requires c = (c.requires.0.kept, c.requires.0.fits.held)
-
-pub meta_at-e-requires : goal.meta_at-e-requires
-meta_at-e-requires c = (c.requires.0.kept.arranged, c.own_place-i.ensures.at)
-
 pub returns-then-has_room : goal.returns-then-has_room
-returns-then-has_room c v = told_greets v c.requires.0 c.own_place-i.result c.own_place-i.ensures c.meta_at-e.result.len (ap (λ (e : Meta). e.len) c.meta_at-e.ensures.same) c.has_room.result c.has_room.ensures c.if-has_room.true
+returns-then-has_room c v = told_greets v c.args.f c.requires c.own_place-i.result c.own_place-i.ensures c.meta_at-e.result.len (ap (λ (e : Meta). e.len) c.meta_at-e.ensures.same) c.has_room.result c.has_room.ensures c.if-has_room.true
 
 pub returns : goal.returns
-returns c v = told-dropped v c.requires.0 c.own_place-i.result c.own_place-i.ensures c.meta_at-e.result.len (ap (λ (e : Meta). e.len) c.meta_at-e.ensures.same) c.has_room.result c.has_room.ensures c.if-has_room.false
+returns c v = told-dropped v c.args.f c.requires c.own_place-i.result c.own_place-i.ensures c.meta_at-e.result.len (ap (λ (e : Meta). e.len) c.meta_at-e.ensures.same) c.has_room.result c.has_room.ensures c.if-has_room.false

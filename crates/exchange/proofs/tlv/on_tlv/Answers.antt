@@ -1,63 +1,56 @@
+use mathlib.Core.Path.{◌≡◌, refl}
+use Prim.Native.Nat.{◌<◌}
 use native.Mathlib.Omega.{arith}
-use mathlib.Core.Path.{refl}
+use Rattle.wire.specs.Kind.{number}
+use Rattle.wire.specs.declared.kind.Kind.{Kind}
+use Rattle.wire.specs.declared.kind.Kind.TheVariants.{RequestNetwork, RequestNode, NodeEndpoint, NetworkState, NodeState, Peer, KeepAlive, Payment}
 use Rattle.exchange.proofs.Tlvs.{short-node, short-endpoint, short_network, short-state, other_type, network_asked, node-asked, endpoint-met, network_met, state-met}
 use Rattle.exchange.proofs.tlv.on_tlv.Goals as goal
+use Rattle.exchange.proofs.tlv.on_tlv.Goals.{in_default-known-via-in-RequestNode+else-value-ge4, in_default-known-via-in-NodeEndpoint+else-value-ge8, in_default-known-via-in-NetworkState+else-value-ge16, in_default-known-via-in-NodeState+else-value-ge28, in_default-known-via-in_default-known}
 
-pub on_request_network-requires : goal.on_request_network-requires
-on_request_network-requires c = c.requires.0
-
-pub returns-then-value-lt4 : goal.returns-then-value-lt4
-returns-then-value-lt4 c =
-    rw c.still.ensures (short-node c.args.c c.args.t c.args.p c.args.d c.args.mem.now c.args.kind c.args.value.now c.in-2.is c.if-value-lt4.true)
-
-pub on_request_node-requires : goal.on_request_node-requires
-on_request_node-requires c = c.requires.0
-
-pub returns-then-value-lt8 : goal.returns-then-value-lt8
-returns-then-value-lt8 c =
-    rw c.still-then-value-lt8.ensures (short-endpoint c.args.c c.args.t c.args.p c.args.d c.args.mem.now c.args.kind c.args.value.now c.in-3.is c.if-value-lt8.true)
-
-pub on_endpoint-requires : goal.on_endpoint-requires
-on_endpoint-requires c = c.requires
-
-pub returns-then-value-lt16 : goal.returns-then-value-lt16
-returns-then-value-lt16 c =
-    rw c.still-then-value-lt16.ensures (short_network c.args.c c.args.t c.args.p c.args.d c.args.mem.now c.args.kind c.args.value.now c.in-4.is c.if-value-lt16.true)
-
-pub on_network-requires : goal.on_network-requires
-on_network-requires c = c.requires.0
-
-pub returns-then-value-lt28 : goal.returns-then-value-lt28
-returns-then-value-lt28 c =
-    rw c.still-then-value-lt28.ensures (short-state c.args.c c.args.t c.args.p c.args.d c.args.mem.now c.args.kind c.args.value.now c.in-5.is c.if-value-lt28.true)
-
-pub on_state-requires : goal.on_state-requires
-on_state-requires c = (c.requires.0, c.if-value-lt28.false)
-
-pub returns-in-1 : goal.returns-in-1
-returns-in-1 c =
-    network_asked c.args.c c.args.t c.args.p c.args.d c.args.mem.now c.args.kind c.args.value.now c.in-1.is (c.on_request_network.ensures c.args.value.now c.args.p)
-
-pub returns-else-value-lt4 : goal.returns-else-value-lt4
-returns-else-value-lt4 c =
-    node-asked c.args.c c.args.t c.args.p c.args.d c.args.mem.now c.args.kind c.args.value.now c.in-2.is c.if-value-lt4.false c.read_u32.result c.read_u32.ensures (c.on_request_node.ensures c.args.value.now c.args.p)
-
-pub returns-else-value-lt8 : goal.returns-else-value-lt8
-returns-else-value-lt8 c =
-    endpoint-met c.args.c c.args.t c.args.p c.args.d c.args.mem.now c.args.kind c.args.value.now c.in-3.is c.if-value-lt8.false c.read_u32-in-3.result c.read_u32-in-3-2.result c.read_u32-in-3.ensures c.read_u32-in-3-2.ensures (c.on_endpoint.ensures c.args.value.now)
-
-pub returns-else-value-lt16 : goal.returns-else-value-lt16
-returns-else-value-lt16 c =
-    network_met c.args.c c.args.t c.args.p c.args.d c.args.mem.now c.args.kind c.args.value.now c.in-4.is c.if-value-lt16.false _ refl (c.on_network.ensures c.args.value.now c.args.p)
-
-pub returns-else-value-lt28 : goal.returns-else-value-lt28
-returns-else-value-lt28 c =
-    state-met c.args.c c.args.t c.args.p c.args.d c.args.mem.now c.args.kind c.args.value.now c.in-5.is c.if-value-lt28.false (c.on_state.ensures c.args.p)
-
-pub returns-in-32-to-511 : goal.returns-in-32-to-511
-returns-in-32-to-511 c =
-    rw c.still-in-32-to-511.ensures (other_type c.args.c c.args.t c.args.p c.args.d c.args.mem.now c.args.kind c.args.value.now (omega arith) (omega arith) (omega arith) (omega arith) (omega arith))
+-- a type that no arm names
+no_arm : (k : Kind) → ¬ (k ≡ RequestNetwork) → ¬ (k ≡ RequestNode) → ¬ (k ≡ NodeEndpoint) → ¬ (k ≡ NetworkState) → ¬ (k ≡ NodeState) → 5 < number k
+no_arm RequestNetwork a b c d e = absurd (a refl)
+no_arm RequestNode a b c d e = absurd (b refl)
+no_arm NodeEndpoint a b c d e = absurd (c refl)
+no_arm NetworkState a b c d e = absurd (d refl)
+no_arm NodeState a b c d e = absurd (e refl)
+no_arm Peer a b c d e = omega arith
+no_arm KeepAlive a b c d e = omega arith
+no_arm Payment a b c d e = omega arith
 
 pub returns-in_default : goal.returns-in_default
 returns-in_default c =
-    rw c.still-in_default.ensures (other_type c.args.c c.args.t c.args.p c.args.d c.args.mem.now c.args.kind c.args.value.now (omega arith) (omega arith) (omega arith) (omega arith) (omega arith))
+    let u = c.in_default.ensures in
+    rw c.still.ensures (other_type c.args.c c.args.t c.args.p c.args.d c.args.mem.now c.args.kind c.args.value.now u.0 u.1 u.2 u.3 u.4)
+
+pub returns-in-RequestNetwork : goal.returns-in-RequestNetwork
+returns-in-RequestNetwork c = network_asked c.args.c c.args.t c.args.p c.args.d c.args.mem.now c.args.kind c.args.value.now (rw c.in-RequestNetwork.is at c.in-Ok.ensures) (c.on_request_network.ensures c.args.value.now c.args.p)
+
+pub returns-in-RequestNode : goal.returns-in-RequestNode
+returns-in-RequestNode c = node-asked c.args.c c.args.t c.args.p c.args.d c.args.mem.now c.args.kind c.args.value.now (rw c.in-RequestNode.is at c.in-Ok.ensures) c.if-value-ge4.true c.read_u32.result c.read_u32.ensures (c.on_request_node.ensures c.args.value.now c.args.p)
+
+pub returns-in-NodeEndpoint : goal.returns-in-NodeEndpoint
+returns-in-NodeEndpoint c =
+    endpoint-met c.args.c c.args.t c.args.p c.args.d c.args.mem.now c.args.kind c.args.value.now (rw c.in-NodeEndpoint.is at c.in-Ok.ensures) c.if-value-ge8.true c.read_u32-in-NodeEndpoint.result c.read_u32-in-NodeEndpoint-2.result c.read_u32-in-NodeEndpoint.ensures c.read_u32-in-NodeEndpoint-2.ensures (c.on_endpoint.ensures c.args.value.now)
+
+pub returns-in-NetworkState : goal.returns-in-NetworkState
+returns-in-NetworkState c = network_met c.args.c c.args.t c.args.p c.args.d c.args.mem.now c.args.kind c.args.value.now (rw c.in-NetworkState.is at c.in-Ok.ensures) c.if-value-ge16.true _ refl (c.on_network.ensures c.args.value.now c.args.p)
+
+pub returns-in-NodeState : goal.returns-in-NodeState
+returns-in-NodeState c = state-met c.args.c c.args.t c.args.p c.args.d c.args.mem.now c.args.kind c.args.value.now (rw c.in-NodeState.is at c.in-Ok.ensures) c.if-value-ge28.true (c.on_state.ensures c.args.p)
+
+pub returns-in_default-known : goal.returns-in_default-known
+returns-in_default-known c =
+    rw c.still-in_default-known.ensures
+    (elim c.in_default-known.branch [
+      | in_default-known-via-in-RequestNode+else-value-ge4 w ↦ short-node c.args.c c.args.t c.args.p c.args.d c.args.mem.now c.args.kind c.args.value.now (rw w.in-RequestNode.is at c.in-Ok.ensures) w.if-value-ge4.false
+      | in_default-known-via-in-NodeEndpoint+else-value-ge8 w ↦ short-endpoint c.args.c c.args.t c.args.p c.args.d c.args.mem.now c.args.kind c.args.value.now (rw w.in-NodeEndpoint.is at c.in-Ok.ensures) w.if-value-ge8.false
+      | in_default-known-via-in-NetworkState+else-value-ge16 w ↦ short_network c.args.c c.args.t c.args.p c.args.d c.args.mem.now c.args.kind c.args.value.now (rw w.in-NetworkState.is at c.in-Ok.ensures) w.if-value-ge16.false
+      | in_default-known-via-in-NodeState+else-value-ge28 w ↦ short-state c.args.c c.args.t c.args.p c.args.d c.args.mem.now c.args.kind c.args.value.now (rw w.in-NodeState.is at c.in-Ok.ensures) w.if-value-ge28.false
+      | in_default-known-via-in_default-known w ↦
+          let x = w.in_default-known in
+          let l : 5 < number c.in-Ok.known = no_arm c.in-Ok.known x.not-RequestNetwork x.not-RequestNode x.not-NodeEndpoint x.not-NetworkState x.not-NodeState in
+          let e : c.args.kind ≡ number c.in-Ok.known = c.in-Ok.ensures in
+          other_type c.args.c c.args.t c.args.p c.args.d c.args.mem.now c.args.kind c.args.value.now (omega arith) (omega arith) (omega arith) (omega arith) (omega arith)
+    ])

@@ -1,3 +1,4 @@
+use borrow.Author.Rules.{rules}
 use Rattle.upkeep.proofs.Leaving.{midway-readable}
 use Rattle.ledger.proofs.Sums.{midway-good, summing}
 use Rattle.ledger.proofs.look.summed.Goals as goal
@@ -12,4 +13,4 @@ tally-t-requires c =
 
 pub returns : goal.returns
 returns c =
-    summing c.args.clock c.args.state c.args.memory.now c.args.w c.reach-found.result c.reach-found.ensures c.tally-t.result c.tally-t.ensures (record { sfits = c.struct_told-1.given.0.1 })
+    summing c.args.clock c.args.state c.args.memory.now c.args.whose c.reach-found.result c.reach-found.ensures c.tally-t.result c.tally-t.ensures (search rules)

@@ -1,5 +1,8 @@
-use Rattle.ledger.proofs.Numbers.{from_zero}
+-- What begins goes on from reading 0, before which there is none.
+use Rattle.std.proofs.Common.{[], refl}
+use Prim.Native.Nat.{zero-le}
+use borrow.Author.Tests.{le-ltb}
 use Rattle.ledger.proofs.refusal.of_start.Goals as goal
 
 pub returns : goal.returns
-returns c = from_zero c.args.clock c.args.table c.of_table.result c.of_table.ensures
+returns c = rw (le-ltb c.args.clock 0 zero-le) at (c.of_table.ensures (record { own = 0; last = 0; table = []; peers = []; endpoints = []; digest = [] }) refl)

@@ -1,5 +1,4 @@
 use borrow.Author.Rules.{rules}
-use native.Mathlib.Omega.{arith}
 use mathlib.Core.Path.{◌∙◌}
 use mathlib.Core.List.{append-nil}
 use Rattle.reply.proofs.Replies.{replied_as}
@@ -8,7 +7,7 @@ use Rattle.reply.proofs.put.ask_network.Goals as goal
 
 pub returns-then-c-d : goal.returns-then-c-d
 returns-then-c-d c =
-    progress_early c.args.c c.requires.1.1.1.0 c.requires.1.1.1.1 c.args.d c.args.room.now c.requires.0.used c.requires.0.headed c.if-c-d.true
+    progress_early c.args.c c.requires.1.1.1.0 c.requires.1.1.1.1 c.args.d c.args.room.now c.requires.0.used c.if-c-d.true
 
 pub reply-v-requires : goal.reply-v-requires
 reply-v-requires c =
@@ -18,9 +17,6 @@ pub returns-then-v-d : goal.returns-then-v-d
 returns-then-v-d c =
     progress_left_out c.args.c c.requires.1.1.1.0 c.requires.1.1.1.1 c.args.d c.args.room.now c.if-c-d.false c.reply-v.result _
     (replied_as c.reply-v.ensures (append-nil c.request_network_tlv-tlv.result ∙ c.request_network_tlv-tlv.ensures)) c.if-v-d.true
-
-pub overflow_add-e : goal.overflow_add-e
-overflow_add-e c = omega (arith, c.requires.1.1.0)
 
 pub returns : goal.returns
 returns c =

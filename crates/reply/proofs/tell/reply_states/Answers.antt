@@ -8,7 +8,7 @@ use Rattle.reply.proofs.tell.reply_states.Goals as goal
 use Rattle.reply.proofs.tell.reply_states.Goals.{then-marks-i, else-marks-i}
 
 pub loop-i-init : goal.loop-i-init
-loop-i-init c = listing_start c.args.c c.args.t c.args.marks c.args.d c.args.mem.now c.args.room.now c.requires.0.kept.arranged c.requires.1.1.0.used c.requires.1.1.0.headed
+loop-i-init c = listing_start c.args.c c.args.t c.args.marks c.args.d c.args.mem.now c.args.room.now c.requires.0.kept.arranged c.requires.1.1.0.used
 
 pub bounds-marks-i : goal.bounds-marks-i
 bounds-marks-i c =
@@ -23,7 +23,7 @@ node_state_front-front-requires c =
 
 pub reply-v-requires : goal.reply-v-requires
 reply-v-requires c = (
-  record { used = c.loop-i.invariant.used; room = omega (arith, c.loop-i.invariant.room, c.requires.1.1.0.room); headed = c.loop-i.invariant.headed },
+  record { used = c.loop-i.invariant.used; room = omega (arith, c.loop-i.invariant.room, c.requires.1.1.0.room) },
   (
     omega (arith, c.loop-i-test.true, c.loop-i.invariant.omitted, c.loop-i.invariant.within, c.requires.0.kept.arranged.most, c.requires.1.1.1),
     front-room c.args.c.clock c.args.t c.args.mem.now c.requires.0 c.loop-i.i c.loop-i-test.true c.meta_at.result c.meta_at.ensures c.node_state_front-front.result [] 0 c.node_state_front-front.ensures (omega arith),
