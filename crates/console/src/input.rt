@@ -1,9 +1,8 @@
 // Standard input, line by line, through a window on it.
-ghost use Rattle.std.specs.Prelude.{◌≡◌, ◌≤◌, length, None, OnOk};
-ghost use Rattle.console.specs.Window.{Taken};
+ghost use Rattle.std.specs.Prelude.{◌≡◌, ◌+◌, ◌<◌, ◌≤◌, length, None, OnOk, IfSome};
 
-use base::memory::remove_bytes;
 use std::io::{Error, Read, Result, Stdin};
+use std::ops::Range;
 
 // Standard input, and the first read that failed: after that one, it is at its end. It can't be let go, so no failure is lost: `all_read` ends it.
 pub struct StandardInput {
@@ -11,124 +10,131 @@ pub struct StandardInput {
     failure: Option<Error>,
 }
 
-// No read has failed yet.
-pub fn standard_input(from: Stdin) -> StandardInput {
-    StandardInput {
-        from,
-        failure: None,
-    }
-}
-
-// The error of the read that failed, where one did.
-pub fn all_read(input: StandardInput) -> Result<()>
-    ensures { OnOk result (input.failure ≡ None) }
-{
-    let StandardInput { from: _, failure } = input;
-    match failure {
-        Some(e) => Err(e),
-        None => Ok(()),
-    }
-}
-
-// Reads once, and answers how many bytes stand at the front now: none at the end of the input.
-fn read_some(input: &mut StandardInput, room: &mut [u8]) -> usize
-    ensures { result ≤ length room.old }
-{
-    if input.failure.is_some() {
-        return 0;
-    }
-    match input.from.read(room) {
-        Ok(n) => n,
-        Err(e) => {
-            input.failure = Some(e);
-            0
+impl StandardInput {
+    // No read has failed yet.
+    pub fn new(from: Stdin) -> StandardInput {
+        StandardInput {
+            from,
+            failure: None,
         }
     }
-}
 
-// Reads until the room is full or the input ends, and answers how many bytes stand at its front now.
-pub fn read_full(input: &mut StandardInput, room: &mut [u8]) -> usize
-    ensures { result ≤ length room.old }
-{
-    let mut done = 0;
-    while done < room.len() {
-        let n = read_some(input, &mut room[done..]);
-        if n == 0 {
-            return done;
+    // The error of the read that failed, where one did.
+    pub fn all_read(self) -> Result<()>
+        ensures { OnOk result (self.failure ≡ None) }
+    {
+        let StandardInput { from: _, failure } = self;
+        match failure {
+            Some(e) => Err(e),
+            None => Ok(()),
         }
-        done += n;
     }
-    done
-}
 
-// A line, where there is one: the bytes of the window from `at` to `stop`. What is read and not yet taken are those from `from` to `end`.
-#[derive(Clone, Copy)]
-pub struct Next {
-    pub some: bool,
-    pub at: usize,
-    pub stop: usize,
-    pub from: usize,
-    pub end: usize,
-}
-
-// The place of the first line end from `from` on, or `end`.
-fn line_end(window: &[u8], from: usize, end: usize) -> usize
-    requires { (from ≤ end) × (end ≤ length window.now) }
-    ensures { (from ≤ result) × (result ≤ end) }
-{
-    let mut at = from;
-    while at < end {
-        if window[at] == b'\n' {
-            return at;
+    // Reads once, and answers how many bytes stand at the front now: none at the end of the input.
+    fn read_some(&mut self, room: &mut [u8]) -> usize
+        ensures { result ≤ length room.old }
+    {
+        if self.failure.is_some() {
+            return 0;
         }
-        at += 1;
+        match self.from.read(room) {
+            Ok(n) => n,
+            Err(e) => {
+                self.failure = Some(e);
+                0
+            }
+        }
     }
-    at
+
+    // Reads until the room is full or the input ends, and answers how many bytes stand at its front now.
+    pub fn read_full(&mut self, room: &mut [u8]) -> usize
+        ensures { result ≤ length room.old }
+    {
+        // How far a turn goes, the read says.
+        let mut done = 0;
+        while done < room.len() {
+            let n = self.read_some(&mut room[done..]);
+            if n == 0 {
+                break;
+            }
+            done += n;
+        }
+        done
+    }
 }
 
-// What is not yet taken goes to the front, and more is read behind it, up to the answer.
-fn refill(input: &mut StandardInput, window: &mut [u8], from: usize, end: usize) -> usize
-    requires { (from ≤ end) × (end ≤ length window.old) }
-    ensures { result ≤ length window.old }
-{
-    remove_bytes(window, 0, end, 0, from);
-    let rest = end - from;
-    let got = read_full(input, &mut window[rest..]);
-    rest + got
+// The lines of standard input: what is read and not yet taken are the window's bytes from `from` to `end`.
+pub struct Lines {
+    input: StandardInput,
+    pub window: [u8; 131072],
+    from: usize,
+    end: usize,
+    ghost in_order: { from ≤ end },
+    ghost within: { end ≤ 131072 },
 }
 
-// The next line. The last may have no line end; one that is longer than the window is cut.
-pub fn next_line(input: &mut StandardInput, window: &mut [u8], from: usize, end: usize) -> Next
-    requires { (from ≤ end) × (end ≤ length window.old) }
-    ensures { Taken (length window.old) result }
-{
-    let e = line_end(window, from, end);
-    if e < end {
-        return Next {
-            some: true,
-            at: from,
-            stop: e,
-            from: e + 1,
-            end,
+impl Lines {
+    // From the first on.
+    pub fn new(input: StandardInput) -> Lines {
+        Lines {
+            input,
+            window: window_buffer(),
+            from: 0,
+            end: 0,
+        }
+    }
+
+    // The error of the read that failed, where one did.
+    pub fn all_read(self) -> Result<()>
+        ensures { OnOk result (self.input.failure ≡ None) }
+    {
+        let Lines {
+            input,
+            window: _,
+            from: _,
+            end: _,
+        } = self;
+        input.all_read()
+    }
+
+    // How long the first line is, where its end stands in the window.
+    fn line_length(&self) -> Option<usize>
+        ensures { IfSome result (λ n. self.now.from + n < self.now.end) }
+    {
+        let (from, end) = (self.from, self.end);
+        self.window[from..end].iter().position(|b| *b == b'\n')
+    }
+
+    // What is not yet taken goes to the front, and more is read behind it.
+    fn refill(&mut self) {
+        let (from, end) = (self.from, self.end);
+        self.window.copy_within(from..end, 0);
+        let rest = end - from;
+        let got = self.input.read_full(&mut self.window[rest..]);
+        self.from = 0;
+        self.end = rest + got;
+    }
+
+    // Where the next line stands in the window: a part of it that is lent on from here has no rule yet beside a ghost field. The last line may have no line
+    // end; one that is longer than the window is cut.
+    pub fn next_line(&mut self) -> Option<Range<usize>>
+        ensures { IfSome result (λ line. (line.start ≤ line.end) × (line.end ≤ 131072)) }
+    {
+        let mut length = self.line_length();
+        if length.is_none() {
+            self.refill();
+            length = self.line_length();
+        }
+        let start = self.from;
+        let stop = match length {
+            Some(n) => start + n,
+            None => self.end,
         };
-    }
-    let n = refill(input, window, from, end);
-    let e = line_end(window, 0, n);
-    if e < n {
-        return Next {
-            some: true,
-            at: 0,
-            stop: e,
-            from: e + 1,
-            end: n,
-        };
-    }
-    Next {
-        some: 0 < n,
-        at: 0,
-        stop: n,
-        from: n,
-        end: n,
+        if length.is_none() && start == stop {
+            return None;
+        }
+        self.from = (stop + 1).min(self.end);
+        Some(start..stop)
     }
 }
 

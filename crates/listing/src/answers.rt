@@ -1,25 +1,19 @@
 // Answers as lines.
-use console::output::{
-    StandardOutput, end, labelled_bytes, labelled_first, labelled_signed, labelled_size,
-    labelled_word, write,
-};
+use console::output::{Hexadecimal, StandardOutput};
 
 // The answer to a datagram.
 pub fn received(out: &mut StandardOutput, number: u32, omitted: u32, dropped: u32, reply: &[u8]) {
-    labelled_word(out, b"receive ", number);
-    labelled_size(out, b" ", reply.len());
-    labelled_word(out, b" ", omitted);
-    labelled_word(out, b" ", dropped);
-    labelled_bytes(out, b" ", reply);
-    end(out);
+    let length = reply.len();
+    writeln!(
+        out,
+        "receive {number} {length} {omitted} {dropped} {}",
+        Hexadecimal(reply)
+    );
 }
 
 // A total or a sum.
-pub fn summed(out: &mut StandardOutput, label: &[u8], number: u32, value: i64, unread: u32) {
-    labelled_word(out, label, number);
-    labelled_signed(out, b" ", value);
-    labelled_word(out, b" ", unread);
-    end(out);
+pub fn summed(out: &mut StandardOutput, label: &str, number: u32, value: i64, unread: u32) {
+    writeln!(out, "{label} {number} {value} {unread}");
 }
 
 // How many nodes are reachable, the last level, the network digest, and their identifiers.
@@ -31,14 +25,20 @@ pub fn marked(
     digest: &[u8],
     nodes: &[u32],
 ) {
-    labelled_word(out, b"marks ", number);
-    labelled_size(out, b" ", count);
-    labelled_size(out, b" ", levels);
+    write!(out, "marks {number} {count} {levels}");
     if number != 0 {
-        write(out, b" -\n");
+        writeln!(out, " -");
         return;
     }
-    labelled_bytes(out, b" ", digest);
-    labelled_first(out, b" ", nodes, count);
-    end(out);
+    write!(out, " {}", Hexadecimal(digest));
+    for node in nodes.iter().take(count) {
+        write!(out, " {node}");
+    }
+    writeln!(out);
+}
+
+// A call's number, and bytes with their length before them.
+pub fn with_bytes(out: &mut StandardOutput, label: &str, number: u32, bytes: &[u8]) {
+    let length = bytes.len();
+    writeln!(out, "{label} {number} {length} {}", Hexadecimal(bytes));
 }

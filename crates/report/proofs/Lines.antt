@@ -60,7 +60,7 @@ module _ (v : ℕ → ℤ) (m : ℕ → Bool) where
       (λ e. rw e (omega arith))
       (λ l. absurd (omega arith))
 
--- sums and marks that agree give the same lines
+-- the same sums of the same households give the same lines
 pub lines_same : (n : ℕ) (v w : ℕ → ℤ) (m k : ℕ → Bool) → ((h : ℕ) → h ≤ n → v h ≡ w h) → ((h : ℕ) → h ≤ n → m h ≡ k h) → lines_to n v m ≡ lines_to n w k
 lines_same zero v w m k e f = lines_none v m ∙ sym (lines_none w k)
 lines_same (suc n) v w m k e f =

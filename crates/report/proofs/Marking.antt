@@ -7,6 +7,7 @@ use native.Mathlib.Omega.{arith}
 use lib.ListN.{length, get_or, take, length-take}
 use lib.Seq.{take_all}
 use lib.IntN.{ℤ}
+use Rattle.std.specs.Prelude.{Option}
 use Rattle.base.specs.Lists.{keep_by}
 use Rattle.base.proofs.Lists.{map_append, all_keep_by, all_take}
 use Rattle.base.proofs.Marks.{keep_by_nil, keep_by_length, keep_by_in, keep_by_out}
@@ -24,14 +25,14 @@ use Rattle.report.proofs.Adding.{totals-none, totals_then, summed-says}
 use Rattle.accounts.proofs.Sums.{meta_inside, meta_says}
 
 -- the marked nodes below place i are summed
-abbrev pub Below : List Bool → List Entry → List ℤ → List Bool → ℕ → Type 0
-Below marks t s b i = SumsAre (statements (keep_by marks (take i t))) s b
+abbrev pub Below : List Bool → List Entry → List (Option ℤ) → ℕ → Type 0
+Below marks t s i = SumsAre (statements (keep_by marks (take i t))) s
 
-module _ (marks : List Bool) (t : List Entry) (s : List ℤ) (b : List Bool) where
-  below-start : Cleared s b → Below marks t s b 0
-  below-start c = rw (keep_by_nil {A = Entry} marks) (totals-none s b c)
+module _ (marks : List Bool) (t : List Entry) (s : List (Option ℤ)) where
+  below-start : Cleared s → Below marks t s 0
+  below-start c = rw (keep_by_nil {A = Entry} marks) (totals-none s c)
 
-  module _ (i : ℕ) (d : Below marks t s b i) where
+  module _ (i : ℕ) (d : Below marks t s i) where
     -- there is room for one node's payments more
     below-room : AllGood t → i ≤ most_nodes → Small most_payments s
     below-room g l =
@@ -42,37 +43,37 @@ module _ (marks : List Bool) (t : List Entry) (s : List ℤ) (b : List Bool) whe
         record { each = λ h p. rw (d.sums h p ∙ total-is h (statements es)) (omega (arith, tally-mag (of_household h) (payments_in (statements es)))) }
 
     module _ (x : Entry) (p : i < length t) where
-      below-stay : get_or marks i false ≡ false → Below marks t s b (i + 1)
+      below-stay : get_or marks i false ≡ false → Below marks t s (i + 1)
       below-stay k = rw (keep_by_out x marks t i p k) d
 
-      below_on : (n : List ℕ) (s' : List ℤ) (b' : List Bool) → get_or marks i false ≡ true → n ≡ (get_or t i x).says.node_data → SumsGrow (publishing n ∷ []) s b s' b'
-          → Below marks t s' b' (i + 1)
-      below_on n s' b' k e u =
+      below_on : (n : List ℕ) (s' : List (Option ℤ)) → get_or marks i false ≡ true → n ≡ (get_or t i x).says.node_data → SumsGrow (publishing n ∷ []) s s'
+          → Below marks t s' (i + 1)
+      below_on n s' k e u =
           let es : List Entry = keep_by marks (take i t) in
           let y : Entry = get_or t i x in
           rw (keep_by_in x marks t i p k, map_append (λ (z : Entry). z.says) es (y ∷ []))
-          (totals_then (statements es) (y.says ∷ []) s b s' b' d (summed-says n y.says s b s' b' e u))
+          (totals_then (statements es) (y.says ∷ []) s s' d (summed-says n y.says s s' e u))
 
-    below_end : length t ≤ i → SumsAre (statements (keep_by marks t)) s b
+    below_end : length t ≤ i → SumsAre (statements (keep_by marks t)) s
     below_end l = rw (take_all i t l) at d
 
 -- ---- as the code goes over its table: entry by entry, each with its data in the table memory
 
 module _ (t : Table) (m : List ℕ) (k : Kept t m) where
-  module _ (marks : List Bool) (s : List ℤ) (b : List Bool) where
-    pub sums-start : Cleared s b → Below marks (view t m) s b 0
-    sums-start c = below-start marks (view t m) s b c
+  module _ (marks : List Bool) (s : List (Option ℤ)) where
+    pub sums-start : Cleared s → Below marks (view t m) s 0
+    sums-start c = below-start marks (view t m) s c
 
-    module _ (i : ℕ) (d : Below marks (view t m) s b i) where
+    module _ (i : ℕ) (d : Below marks (view t m) s i) where
       pub sums-room : AllGood (view t m) → i < t.count → Small most_payments s
-      sums-room g p = below-room marks (view t m) s b i d g (omega (arith, k.arranged.most))
+      sums-room g p = below-room marks (view t m) s i d g (omega (arith, k.arranged.most))
 
-      pub sums-stay : i < t.count → get_or marks i false ≡ false → Below marks (view t m) s b (i + 1)
-      sums-stay p q = below-stay marks (view t m) s b i d (seen m no_meta) (meta_inside t m k i p) q
+      pub sums-stay : i < t.count → get_or marks i false ≡ false → Below marks (view t m) s (i + 1)
+      sums-stay p q = below-stay marks (view t m) s i d (seen m no_meta) (meta_inside t m k i p) q
 
-      pub sums_on : i < t.count → get_or marks i false ≡ true → (n : List ℕ) → n ≡ data_of m (meta_at t i) → (s' : List ℤ) (b' : List Bool)
-          → SumsGrow (publishing n ∷ []) s b s' b' → Below marks (view t m) s' b' (i + 1)
-      sums_on p q n e s' b' u = below_on marks (view t m) s b i d (seen m no_meta) (meta_inside t m k i p) n s' b' q (meta_says t m k i p n e) u
+      pub sums_on : i < t.count → get_or marks i false ≡ true → (n : List ℕ) → n ≡ data_of m (meta_at t i) → (s' : List (Option ℤ))
+          → SumsGrow (publishing n ∷ []) s s' → Below marks (view t m) s' (i + 1)
+      sums_on p q n e s' u = below_on marks (view t m) s i d (seen m no_meta) (meta_inside t m k i p) n s' q (meta_says t m k i p n e) u
 
-      pub sums_end : t.count ≤ i → SumsAre (statements (keep_by marks (view t m))) s b
-      sums_end l = below_end marks (view t m) s b i d (rw (view-length t k.arranged m) l)
+      pub sums_end : t.count ≤ i → SumsAre (statements (keep_by marks (view t m))) s
+      sums_end l = below_end marks (view t m) s i d (rw (view-length t k.arranged m) l)

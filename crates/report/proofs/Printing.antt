@@ -1,23 +1,24 @@
 -- The report piece by piece, its length, and what is printed of a snapshot. Assumes nothing.
 use mathlib.Core.Path.{◌≡◌, refl, sym, ap, ◌∙◌}
-use mathlib.Core.Bool.{Bool, true, false}
+use mathlib.Core.Bool.{Bool, true}
 use mathlib.Core.List.{List, [], ◌∷◌, ◌++◌}
 use Prim.Native.Nat.{ℕ, ◌+◌, ◌^◌, ◌≤◌, ◌<◌}
 use native.Mathlib.Omega.{arith}
-use lib.ListN.{length, length-append}
+use lib.ListN.{drop, length, length-append}
 use lib.IntN.{ℤ}
+use Rattle.std.specs.Prelude.{Option}
 use lib.Signed.{mag}
 use mir.Syntax.{w64}
 use mir.Val.{SFits}
 use Rattle.base.specs.Lists.{keep, keep_by, is_some}
 use Rattle.base.specs.Memory.{written}
-use Rattle.base.proofs.Tests.{no_way}
-use Rattle.base.proofs.Options.{by_option}
+use Rattle.base.proofs.Options.{nothing}
+use mathlib.Core.Option.{none}
 use Rattle.base.proofs.Lists.{all_keep_by, all_more}
 use Rattle.base.proofs.Marks.{keep_by_length}
 use Rattle.base.proofs.Written.{written-length, written-there, written-above}
 use Rattle.wire.specs.Payment.{most_household}
-use Rattle.model.specs.Figures.{most_nodes, data_limit}
+use Rattle.model.specs.Figures.{most_nodes, data_limit, table_bytes}
 use Rattle.wire.specs.Order.{good}
 use Rattle.model.specs.Table.{Entry, Statement, statements, look}
 use Rattle.model.specs.Snapshot.{load}
@@ -32,13 +33,13 @@ use Rattle.reach.specs.Marks.{Readable, Reaching}
 use Rattle.reach.specs.declared.Reached.{Reached}
 use Rattle.reach.proofs.Reaching.{reached_by}
 use Rattle.snapshot.specs.declared.load.Loaded.{Loaded}
-use Rattle.snapshot.specs.Answers.{LoadedFrom}
+use Rattle.snapshot.specs.Answers.{Holds}
 use Rattle.text.specs.Decimal.{decimal, signed, line}
 use Rattle.text.specs.Room.{Put}
 use Rattle.text.proofs.Digits.{decimal-short, signed-short}
 use Rattle.text.proofs.Puts.{put_then, first_fits, second_fits}
 use Rattle.report.specs.Report.{heading, all_name, refused_line, up_to, report, printed, report_bytes, PrintedTo}
-use Rattle.report.specs.Steps.{sum_at, mark_at, paid_in, Behind, SumsAre, Lent, lines_to, lines}
+use Rattle.report.specs.Steps.{sum_at, paid_at, paid_in, Behind, SumsAre, Lent, lines_to, lines}
 use Rattle.report.proofs.Adding.{behind-none}
 use Rattle.report.proofs.Lines.{lines_same, lines-short, payers-few}
 use Rattle.report.proofs.Few.{nodes-readable}
@@ -51,8 +52,8 @@ pub report-is : (ss : List Statement) → report ss ≡ heading ++ (lines_of ss 
 unfolding report lines_to
 report-is ss = refl
 
-lines_are : (ss : List Statement) (s : List ℤ) (b : List Bool) → SumsAre ss s b → lines s b ≡ lines_of ss
-lines_are ss s b t = lines_same most_household (sum_at s) (λ h. total_of h ss) (mark_at b) (paid_in ss) (λ h l. t.sums h (omega arith)) (λ h l. t.marks h (omega arith))
+lines_are : (ss : List Statement) (s : List (Option ℤ)) → SumsAre ss s → lines s ≡ lines_of ss
+lines_are ss s t = lines_same most_household (sum_at s) (λ h. total_of h ss) (paid_at s) (paid_in ss) (λ h l. t.sums h (omega arith)) (λ h l. t.marks h (omega arith))
 
 -- ---- how long it can be: no sum of a table has more than 14 digits
 
@@ -94,32 +95,32 @@ module _ (es : List Entry) (g : AllGood es) (n : length es ≤ most_nodes) where
 
   -- ---- heading, lines and sum, one behind the other
 
-  module _ (room : List ℕ) (fits : report_bytes ≤ length room) (s : List ℤ) (b : List Bool) (d : SumsAre (statements es) s b)
+  module _ (room : List ℕ) (fits : report_bytes ≤ length room) (s : List (Option ℤ)) (d : SumsAre (statements es) s)
       (room1 : List ℕ) (p1 : room1 ≡ written room 0 heading) (l1 : length room1 ≡ length room) where
-    whole_is : report (statements es) ≡ heading ++ (lines s b ++ line all_name (sum_of (statements es)))
-    whole_is = report-is (statements es) ∙ ap (λ (l : List ℕ). heading ++ (l ++ line all_name (sum_of (statements es)))) (sym (lines_are (statements es) s b d))
+    whole_is : report (statements es) ≡ heading ++ (lines s ++ line all_name (sum_of (statements es)))
+    whole_is = report-is (statements es) ∙ ap (λ (l : List ℕ). heading ++ (l ++ line all_name (sum_of (statements es)))) (sym (lines_are (statements es) s d))
 
-    whole-fits : 0 + length (heading ++ (lines s b ++ line all_name (sum_of (statements es)))) ≤ length room
+    whole-fits : 0 + length (heading ++ (lines s ++ line all_name (sum_of (statements es)))) ≤ length room
     whole-fits = omega (arith, report-short, ap length whole_is)
 
     after-heading : Put heading room 0 room1 16
     after-heading = record { there = p1; next = refl }
 
-    tail_fits : 16 + length (lines s b ++ line all_name (sum_of (statements es))) ≤ length room1
-    tail_fits = second_fits heading (lines s b ++ line all_name (sum_of (statements es))) room 0 whole-fits room1 16 after-heading l1
+    tail_fits : 16 + length (lines s ++ line all_name (sum_of (statements es))) ≤ length room1
+    tail_fits = second_fits heading (lines s ++ line all_name (sum_of (statements es))) room 0 whole-fits room1 16 after-heading l1
 
-    pub lines_fit : 16 + length (lines s b) ≤ length room1
-    lines_fit = first_fits (lines s b) (line all_name (sum_of (statements es))) room1 16 tail_fits
+    pub lines_fit : 16 + length (lines s) ≤ length room1
+    lines_fit = first_fits (lines s) (line all_name (sum_of (statements es))) room1 16 tail_fits
 
-    module _ (room2 : List ℕ) (e : ℕ) (p2 : Put (lines s b) room1 16 room2 e) where
+    module _ (room2 : List ℕ) (e : ℕ) (p2 : Put (lines s) room1 16 room2 e) where
       pub all-fits : length room2 ≡ length room1 → e + length (line all_name (sum_of (statements es))) ≤ length room2
-      all-fits l2 = second_fits (lines s b) (line all_name (sum_of (statements es))) room1 16 tail_fits room2 e p2 l2
+      all-fits l2 = second_fits (lines s) (line all_name (sum_of (statements es))) room1 16 tail_fits room2 e p2 l2
 
       pub report-put : (room3 : List ℕ) (r : ℕ) → Put (line all_name (sum_of (statements es))) room2 e room3 r → Put (report (statements es)) room 0 room3 r
       report-put room3 r p3 =
           let l : List ℕ = line all_name (sum_of (statements es)) in
           rw whole_is
-          (put_then heading (lines s b ++ l) room 0 room1 16 room3 r after-heading (put_then (lines s b) l room1 16 room2 e room3 r p2 p3 tail_fits) whole-fits)
+          (put_then heading (lines s ++ l) room 0 room1 16 room3 r after-heading (put_then (lines s) l room1 16 room2 e room3 r p2 p3 tail_fits) whole-fits)
 
 -- ---- the marked nodes of a table
 
@@ -142,65 +143,63 @@ printed_to bytes room room' r p h =
       room = rw p.there (written-length room (printed bytes) 0 (omega arith));
     }
 
-printed-none : (bytes : List ℕ) → is_some (load 0 bytes) ≡ false → printed bytes ≡ refused_line
+printed-none : (bytes : List ℕ) → load 0 bytes ≡ none → printed bytes ≡ refused_line
 unfolding printed
-printed-none bytes e = by_option (load 0 bytes) (λ q. rw q) (λ b q. no_way true refl (rw q at e))
+printed-none bytes e = rw e
 
-module _ (bytes m : List ℕ) (f : Loaded) (m' : List ℕ) (l : LoadedFrom 0 bytes m f m') where
-  pub refused_to : f.ok ≡ false → (room room' : List ℕ) → report_bytes ≤ length room → room' ≡ written room 0 refused_line → (s : List ℤ) (b : List Bool)
-      → PrintedTo bytes room room' 8 × Lent bytes m s b m' s b
-  refused_to n room room' h e s b =
-      let no : is_some (load 0 bytes) ≡ false = sym l.judged ∙ n in
-      let q : printed bytes ≡ refused_line = printed-none bytes no in (
-        printed_to bytes room room' 8 (rw q (record { there = e; next = refl })) (rw q (omega arith)),
+pub refused_to : (bytes m m' : List ℕ) → (load 0 bytes ≡ none) × (m' ≡ m) → (room room' : List ℕ) → report_bytes ≤ length room → room' ≡ written room 0 refused_line → (s : List (Option ℤ))
+    → PrintedTo bytes room room' 8 × Lent bytes m s m' s
+refused_to bytes m m' l room room' h e s =
+    let q : printed bytes ≡ refused_line = printed-none bytes l.0 in (
+      printed_to bytes room room' 8 (rw q (record { there = e; next = refl })) (rw q (omega arith)),
+      record {
+        refused = λ o. (l.1, refl);
+        totals = λ k o. nothing k (sym l.0 ∙ o);
+        behind = behind-none s;
+        lays = λ k o. nothing k (sym l.0 ∙ o);
+        beyond = ap (drop table_bytes) l.1;
+        size = ap length l.1;
+      },
+    )
+
+module _ (bytes m : List ℕ) (f : Loaded) (m' : List ℕ) (l : Holds 0 bytes m f m') where
+  fits_all : SnapshotFits 0 (record { own = f.own; entries = view f.table m' })
+  fits_all = load_fits 0 bytes (record { own = f.own; entries = view f.table m' }) l.loads
+
+  pub loaded_readable : Readable 0 f.table m'
+  loaded_readable = record { kept = l.kept; entries = fits_all.table.entries; reading = omega arith }
+
+  pub loaded_held : is_some (look f.own (view f.table m')) ≡ true
+  loaded_held = fits_all.table.held
+
+  pub loaded_good : AllGood (view f.table m')
+  loaded_good = all_more (EntryFits 0) (λ e. good data_limit e.says.node_data ≡ true) (λ e h. h.fine) (view f.table m') fits_all.table.entries
+
+  module _ (r : Reached) (a : Reaching f.own 0 (view f.table m') r) where
+    loaded_printed : printed bytes ≡ report (statements (keep_by r.marks (view f.table m')))
+    unfolding printed
+    loaded_printed = rw (l.loads, reached_by f.own 0 (view f.table m') r.marks a.marks)
+
+    loaded_filled : (s : List (Option ℤ)) (s' : List (Option ℤ)) → SumsAre (statements (keep_by r.marks (view f.table m'))) s' → Behind s s'
+        → Lent bytes m s m' s'
+    loaded_filled s s' t k =
         record {
-          refused = λ o. (l.refused n, (refl, refl));
-          totals = λ k o. no_way true refl (rw o at no);
-          behind = behind-none s b;
-          lays = λ k o. no_way true refl (rw o at no);
+          refused = λ e. nothing (record { own = f.own; entries = view f.table m' }) (sym e ∙ l.loads);
+          totals = λ x e. let q : x ≡ record { own = f.own; entries = view f.table m' } = cc l.loads in
+              rw (q, ← reached_by f.own 0 (view f.table m') r.marks a.marks) t;
+          behind = k;
+          lays = λ x e. let q : x ≡ record { own = f.own; entries = view f.table m' } = cc l.loads in
+              (f.table, (l.kept, rw q (refl, l.lays)));
           beyond = l.beyond;
           size = l.size;
-        },
-      )
+        }
 
-  module _ (ok : f.ok ≡ true) where
-    fits_all : SnapshotFits 0 (record { own = f.own; entries = view f.table m' })
-    fits_all = load_fits 0 bytes (record { own = f.own; entries = view f.table m' }) (l.loads ok)
-
-    pub loaded_readable : Readable 0 f.table m'
-    loaded_readable = record { kept = l.kept ok; entries = fits_all.table.entries; reading = omega arith }
-
-    pub loaded_held : is_some (look f.own (view f.table m')) ≡ true
-    loaded_held = fits_all.table.held
-
-    pub loaded_good : AllGood (view f.table m')
-    loaded_good = all_more (EntryFits 0) (λ e. good data_limit e.says.node_data ≡ true) (λ e h. h.fine) (view f.table m') fits_all.table.entries
-
-    module _ (r : Reached) (a : Reaching f.own 0 (view f.table m') r) where
-      loaded_printed : printed bytes ≡ report (statements (keep_by r.marks (view f.table m')))
-      unfolding printed
-      loaded_printed = rw (l.loads ok, reached_by f.own 0 (view f.table m') r.marks a.marks)
-
-      loaded_filled : (s : List ℤ) (b : List Bool) (s' : List ℤ) (b' : List Bool) → SumsAre (statements (keep_by r.marks (view f.table m'))) s' b' → Behind s b s' b'
-          → Lent bytes m s b m' s' b'
-      loaded_filled s b s' b' t k =
-          record {
-            refused = λ e. no_way f.ok ok (rw e at l.judged);
-            totals = λ x e. let q : x ≡ record { own = f.own; entries = view f.table m' } = cc (l.loads ok) in
-                rw (q, ← reached_by f.own 0 (view f.table m') r.marks a.marks) t;
-            behind = k;
-            lays = λ x e. let q : x ≡ record { own = f.own; entries = view f.table m' } = cc (l.loads ok) in
-                (f.table, (l.kept ok, rw q (refl, l.lays ok)));
-            beyond = l.beyond;
-            size = l.size;
-          }
-
-      pub loaded_to : (room room' : List ℕ) (n : ℕ) → report_bytes ≤ length room → (s : List ℤ) (b : List Bool) (s' : List ℤ) (b' : List Bool)
-          → Put (report (statements (keep_by r.marks (view f.table m')))) room 0 room' n × (SumsAre (statements (keep_by r.marks (view f.table m'))) s' b' × Behind s b s' b')
-          → PrintedTo bytes room room' n × Lent bytes m s b m' s' b'
-      loaded_to room room' n h s b s' b' p = (
-        printed_to bytes room room' n (rw loaded_printed p.0)
-            (rw loaded_printed
-            (omega (arith, report-short (keep_by r.marks (view f.table m')) (marked-good f.table m' (l.kept ok) loaded_good r.marks) (marked-few f.table m' (l.kept ok) loaded_good r.marks)))),
-        loaded_filled s b s' b' p.1.0 p.1.1,
-      )
+    pub loaded_to : (room room' : List ℕ) (n : ℕ) → report_bytes ≤ length room → (s : List (Option ℤ)) (s' : List (Option ℤ))
+        → Put (report (statements (keep_by r.marks (view f.table m')))) room 0 room' n × (SumsAre (statements (keep_by r.marks (view f.table m'))) s' × Behind s s')
+        → PrintedTo bytes room room' n × Lent bytes m s m' s'
+    loaded_to room room' n h s s' p = (
+      printed_to bytes room room' n (rw loaded_printed p.0)
+          (rw loaded_printed
+          (omega (arith, report-short (keep_by r.marks (view f.table m')) (marked-good f.table m' l.kept loaded_good r.marks) (marked-few f.table m' l.kept loaded_good r.marks)))),
+      loaded_filled s s' p.1.0 p.1.1,
+    )

@@ -3,7 +3,7 @@ use mathlib.Core.Path.{◌≡◌, refl, sym, ap, subst, ◌∙◌}
 use mathlib.Core.List.{List, [], ◌∷◌, ◌++◌, map}
 use Prim.Native.Nat.{ℕ, ◌*◌, ◌≤◌, ◌<◌}
 use native.Mathlib.Omega.{arith}
-use lib.ListN.{length, take, drop, length-take, length-append, take-append-drop}
+use lib.ListN.{length, take, drop, take-append-drop}
 use lib.Seq.{take-take, take-append-le, length-take-le}
 use lib.Dec.{ltb}
 use borrow.Author.Tests.{ltb-true, ltb-false}
@@ -76,20 +76,3 @@ left-whole s r m w t h l g =
     (λ b.
     let k : table_bytes ≤ length w = rw (g.size, length-take-le t m h) (ltb-false t table_bytes b) in
     left-same r w (w ++ drop t m) (λ room. (k, sym (take-append-le table_bytes w (drop t m) k))) g.left)
-
--- ---- parts of what is lent
-
--- a front has as many bytes as were asked for
-pub counted : (n : ℕ) (l : List ℕ) → n ≤ length l → n ≡ length (take n l)
-counted n l h = sym (length-take-le n l h)
-
--- what lies within the front that came back lies within the whole
-pub within-front : (n : ℕ) (w l : List ℕ) → n ≤ length w → n ≤ length (w ++ l)
-within-front n w l h = rw (length-append w l) (omega arith)
-
-pub counted-front : (n : ℕ) (w l : List ℕ) → n ≤ length w → n ≡ length (take n (w ++ l))
-counted-front n w l h = counted n (w ++ l) (within-front n w l h)
-
--- a front is no longer than was asked for
-pub front-most : (n t : ℕ) (l : List ℕ) → n ≤ length (take t l) → n ≤ t
-front-most n t l h = omega (arith, h, length-take t l)

@@ -11,12 +11,12 @@ pub record Goes (s : State) (m : List ℕ) (r : State) (m' : List ℕ) : Type 0 
   pub size : length m' ≡ length m
   pub small : length m < table_bytes → (r ≡ s) × (m' ≡ m)
 
--- the session x between lines, with its table memory m and the bytes k of the last accepted save
-pub record Running (x : Session) (m k : List ℕ) : Type 0 where
-  pub left : AsLeft x.state m
-  pub wide : 40000 ≤ length m
-  pub room : 40000 ≤ length k
+-- the session between lines
+pub record Running (x : Session) : Type 0 where
+  pub left : AsLeft x.state x.memory
+  pub wide : 40000 ≤ length x.memory
+  pub room : 40000 ≤ length x.saved
   pub table : x.table ≤ 40000
   pub reply : x.reply ≤ 5000
   pub snapshot : x.snapshot ≤ 40000
-  pub saved : x.saved ≤ 40000
+  pub kept : x.kept ≤ 40000

@@ -1,58 +1,47 @@
 // Calls that change state: each prints its answer and returns the state after it.
-ghost use Rattle.std.specs.Prelude.{◌≤◌};
+ghost use Rattle.std.specs.Prelude.{◌≡◌, ◌≤◌, length};
 ghost use Rattle.ledger.specs.Promises.{AsLeft};
 ghost use Rattle.sessions.specs.Kept.{Goes};
 
+use crate::command::Change;
 use console::input::large_buffer;
-use console::output::{StandardOutput, line, line_of_bytes};
+use console::output::StandardOutput;
 use ledger::change;
-use listing::answers;
+use listing::answers::{received, with_bytes};
 use node::State;
-use text::forms::{four, small};
-use wire::payment::unfold;
 
 // Our node alone.
-fn begin(out: &mut StandardOutput, s: State, mem: &[u8], v: [u64; 8]) -> State
+fn begin(
+    out: &mut StandardOutput,
+    s: State,
+    mem: &[u8],
+    own: u32,
+    clock: u64,
+    random: &[u32; 4],
+) -> State
     requires { AsLeft s mem.now }
     ensures { Goes s mem.now result mem.now }
 {
-    let a = change::pingvratha_begin(s, mem, small(v[0]), v[1], &four(v, 2));
-    line(out, b"begin ", a.number);
+    let a = change::pingvratha_begin(s, mem, own, clock, random);
+    writeln!(out, "begin {}", a.number);
     a.state
 }
 
 // The node of a snapshot.
-fn resume_from(
-    out: &mut StandardOutput,
-    s: State,
-    mem: &mut [u8],
-    bytes: &[u8],
-    v: [u64; 8],
-) -> State
-    requires { AsLeft s mem.old }
-    ensures { Goes s mem.old result mem.new }
-{
-    let a = change::pingvratha_resume(s, mem, bytes, v[0], &four(v, 1));
-    line(out, b"resume ", a.number);
-    a.state
-}
-
-// The snapshot is what the line gives, or the last accepted save.
 fn resume(
     out: &mut StandardOutput,
     s: State,
     mem: &mut [u8],
-    saved: &[u8],
     bytes: &[u8],
-    v: [u64; 8],
+    clock: u64,
+    random: &[u32; 4],
 ) -> State
     requires { AsLeft s mem.old }
     ensures { Goes s mem.old result mem.new }
 {
-    if v[5] == 1 {
-        return resume_from(out, s, mem, saved, v);
-    }
-    resume_from(out, s, mem, bytes, v)
+    let a = change::pingvratha_resume(s, mem, bytes, clock, random);
+    writeln!(out, "resume {}", a.number);
+    a.state
 }
 
 // A datagram came in.
@@ -62,7 +51,10 @@ fn receive(
     mem: &mut [u8],
     reply: usize,
     datagram: &[u8],
-    v: [u64; 8],
+    clock: u64,
+    endpoint: u32,
+    is_unicast: bool,
+    random: &[u32; 4],
 ) -> State
     requires { AsLeft s mem.old × (reply ≤ 5000) }
     ensures { Goes s mem.old result mem.new }
@@ -73,80 +65,148 @@ fn receive(
         mem,
         &mut room[..reply],
         datagram,
-        v[0],
-        small(v[1]),
-        v[2] == 1,
-        &four(v, 3),
+        clock,
+        endpoint,
+        is_unicast,
+        random,
     );
-    let n = a.length;
-    answers::received(out, a.number, a.omitted, a.dropped, &room[..n]);
+    received(out, a.number, a.omitted, a.dropped, &room[..a.length]);
     a.state
 }
 
 // An endpoint's time.
-fn tick(out: &mut StandardOutput, s: State, mem: &mut [u8], reply: usize, v: [u64; 8]) -> State
+fn tick(
+    out: &mut StandardOutput,
+    s: State,
+    mem: &mut [u8],
+    reply: usize,
+    clock: u64,
+    endpoint: u32,
+    random: &[u32; 4],
+) -> State
     requires { AsLeft s mem.old × (reply ≤ 5000) }
     ensures { Goes s mem.old result mem.new }
 {
     let mut room = large_buffer();
-    let a = change::pingvratha_tick(s, mem, &mut room[..reply], v[0], small(v[1]), &four(v, 2));
-    let n = a.length;
-    line_of_bytes(out, b"tick ", a.number, &room[..n]);
+    let a = change::pingvratha_tick(s, mem, &mut room[..reply], clock, endpoint, random);
+    with_bytes(out, "tick", a.number, &room[..a.length]);
     a.state
 }
 
 // The keep-alive interval of an endpoint.
-fn keep_alive(out: &mut StandardOutput, s: State, mem: &mut [u8], v: [u64; 8]) -> State
+fn keep_alive(
+    out: &mut StandardOutput,
+    s: State,
+    mem: &mut [u8],
+    clock: u64,
+    endpoint: u32,
+    interval: u32,
+    random: &[u32; 4],
+) -> State
     requires { AsLeft s mem.old }
     ensures { Goes s mem.old result mem.new }
 {
-    let a = change::pingvratha_keep_alive(s, mem, v[0], small(v[1]), small(v[2]), &four(v, 3));
-    line(out, b"keep-alive ", a.number);
+    let a = change::pingvratha_keep_alive(s, mem, clock, endpoint, interval, random);
+    writeln!(out, "keep-alive {}", a.number);
     a.state
 }
 
 // A payment of our own.
-fn pay(out: &mut StandardOutput, s: State, mem: &mut [u8], v: [u64; 8]) -> State
+fn pay(
+    out: &mut StandardOutput,
+    s: State,
+    mem: &mut [u8],
+    clock: u64,
+    household: u32,
+    receipt: u32,
+    amount: i32,
+    random: &[u32; 4],
+) -> State
     requires { AsLeft s mem.old }
     ensures { Goes s mem.old result mem.new }
 {
-    let amount = unfold(small(v[3]));
-    let a = change::pingvratha_pay(s, mem, v[0], small(v[1]), small(v[2]), amount, &four(v, 4));
-    line(out, b"pay ", a.number);
+    let a = change::pingvratha_pay(s, mem, clock, household, receipt, amount, random);
+    writeln!(out, "pay {}", a.number);
     a.state
 }
 
 // Only the reachable nodes stay.
-fn purge(out: &mut StandardOutput, s: State, mem: &[u8], v: [u64; 8]) -> State
+fn purge(out: &mut StandardOutput, s: State, mem: &[u8], clock: u64, random: &[u32; 4]) -> State
     requires { AsLeft s mem.now }
     ensures { Goes s mem.now result mem.now }
 {
-    let a = change::pingvratha_purge(s, mem, v[0], &four(v, 1));
-    line(out, b"purge ", a.number);
+    let a = change::pingvratha_purge(s, mem, clock, random);
+    writeln!(out, "purge {}", a.number);
     a.state
 }
 
-// The call of the line, by the place of its name: begin, resume, receive, tick, keep-alive, pay, purge.
-pub fn change(
+// The call of the line, on the memory that it is lent.
+fn run(
     out: &mut StandardOutput,
-    which: usize,
+    call: Change,
     s: State,
     mem: &mut [u8],
     reply: usize,
     saved: &[u8],
     bytes: &[u8],
-    v: [u64; 8],
 ) -> State
     requires { AsLeft s mem.old × (reply ≤ 5000) }
     ensures { Goes s mem.old result mem.new }
 {
-    match which {
-        0 => begin(out, s, mem, v),
-        1 => resume(out, s, mem, saved, bytes, v),
-        2 => receive(out, s, mem, reply, bytes, v),
-        3 => tick(out, s, mem, reply, v),
-        4 => keep_alive(out, s, mem, v),
-        5 => pay(out, s, mem, v),
-        _ => purge(out, s, mem, v),
+    match call {
+        Change::Begin { own, clock, random } => begin(out, s, mem, own, clock, &random),
+        Change::Resume {
+            clock,
+            random,
+            is_last,
+        } => {
+            let snapshot = if is_last { saved } else { bytes };
+            resume(out, s, mem, snapshot, clock, &random)
+        }
+        Change::Receive {
+            clock,
+            endpoint,
+            is_unicast,
+            random,
+        } => receive(
+            out, s, mem, reply, bytes, clock, endpoint, is_unicast, &random,
+        ),
+        Change::Tick {
+            clock,
+            endpoint,
+            random,
+        } => tick(out, s, mem, reply, clock, endpoint, &random),
+        Change::KeepAlive {
+            clock,
+            endpoint,
+            interval,
+            random,
+        } => keep_alive(out, s, mem, clock, endpoint, interval, &random),
+        Change::Pay {
+            clock,
+            household,
+            receipt,
+            amount,
+            random,
+        } => pay(out, s, mem, clock, household, receipt, amount, &random),
+        Change::Purge { clock, random } => purge(out, s, mem, clock, &random),
     }
+}
+
+// The call of the line: it is lent the first `table` bytes of the memory and `reply` bytes for a reply. `saved` is the last accepted save, and `bytes` are those
+// of the line.
+pub fn change(
+    out: &mut StandardOutput,
+    call: Change,
+    s: State,
+    memory: &mut [u8],
+    table: usize,
+    reply: usize,
+    saved: &[u8],
+    bytes: &[u8],
+) -> State
+    requires { AsLeft s memory.old × ((table ≤ length memory.old) × (reply ≤ 5000)) }
+    ensures { AsLeft result memory.new × (length memory.new ≡ length memory.old) }
+{
+    run(out, call, s, &mut memory[..table], reply, saved, bytes)
 }

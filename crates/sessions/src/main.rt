@@ -5,60 +5,40 @@
 
 mod book;
 mod changing;
+mod command;
 mod session;
 mod showing;
 
-ghost use Rattle.std.specs.Prelude.{◌≤◌, length};
+ghost use Rattle.sessions.specs.Kept.{Running};
 
-use console::input::{
-    StandardInput, all_read, large_buffer, next_line, standard_input, window_buffer,
-};
-use console::output::{StandardOutput, all_written, has_failed, standard_output};
-use session::{first, step};
+use console::input::{Lines, StandardInput};
+use console::output::StandardOutput;
+use session::Session;
 use std::io;
 
-// Line by line to the end of the input, or to a write that fails. A proved loop has to end, and nothing says that the input does: the turns count down from
-// a number that no run uses up.
-fn run(
-    input: &mut StandardInput,
-    out: &mut StandardOutput,
-    window: &mut [u8],
-    mem: &mut [u8],
-    saved: &mut [u8],
-)
-    requires { (40000 ≤ length mem.old) × (40000 ≤ length saved.old) }
+// Line by line to the end of the input, or to a write that fails. A proved loop has to end, and nothing says that the input does: no run uses up the turns.
+fn run(lines: &mut Lines, out: &mut StandardOutput, session: &mut Session)
+    requires { Running session.old }
 {
-    let mut x = first();
-    let mut from = 0;
-    let mut end = 0;
-    let mut turns = u64::MAX;
-    while turns > 0 {
-        let n = next_line(input, window, from, end);
-        if !n.some {
+    for _turn in 0..u64::MAX {
+        let Some(line) = lines.next_line() else {
+            return;
+        };
+        if out.has_failed() {
             return;
         }
-        if has_failed(out) {
-            return;
-        }
-        let at = n.at;
-        let stop = n.stop;
-        x = step(out, x, mem, saved, &mut window[at..stop]);
-        from = n.from;
-        end = n.end;
-        turns -= 1;
+        session.step(out, &mut lines.window[line]);
     }
 }
 
 // The window has room for the longest line that is not cut: a snapshot of 33,319 bytes takes 66,638 digits.
 fn main(rt: HostRuntime) -> io::Result<()> {
-    let mut input = standard_input(rt.stdin());
-    let mut out = standard_output(rt.stdout());
-    let mut window = window_buffer();
-    let mut mem = large_buffer();
-    let mut saved = large_buffer();
-    run(&mut input, &mut out, &mut window, &mut mem, &mut saved);
-    let read = all_read(input);
-    let written = all_written(out);
+    let mut lines = Lines::new(StandardInput::new(rt.stdin()));
+    let mut out = StandardOutput::new(rt.stdout());
+    let mut session = Session::new();
+    run(&mut lines, &mut out, &mut session);
+    let read = lines.all_read();
+    let written = out.all_written();
     read?;
     written
 }

@@ -1,191 +1,113 @@
-// A session: the node's state, the lengths of what is lent, and the last accepted save.
-ghost use Rattle.std.specs.Prelude.{◌≡◌, true, List, ℕ, ◌≤◌, length};
-ghost use Rattle.ledger.specs.Promises.{AsLeft};
+// A session: the node's state, what its calls are lent, and the last accepted save.
 ghost use Rattle.sessions.specs.Kept.{Running};
 
 use crate::book::totals;
 use crate::changing::change;
+use crate::command::Command;
 use crate::showing::{save, tell};
-use base::memory::copy;
 use console::input::large_buffer;
-use console::output::{StandardOutput, write};
+use console::output::StandardOutput;
 use ledger::blank::pingvratha_blank;
 use listing::states::state;
 use model::figures::{MOST_BYTES, SNAPSHOT_BYTES, TABLE_BYTES};
 use node::State;
-use text::forms::{Line, read_line};
+use text::words::decode_last;
 
-// Places among the names of lines: calls that change state stand below CHANGING, then `save` and `rooms`; those that print alone from PRINTING on, first
-// calls that sum or show, then `state` and `totals`.
-const CHANGING: usize = 7;
-
-const SAVE: usize = 7;
-
-const PRINTING: usize = 9;
-
-const STATE: usize = 13;
-
-// `saved` bytes are those of the last accepted save.
-#[derive(Clone, Copy)]
+// Calls are lent the first `table` bytes of the memory, and rooms of `reply` and `snapshot` bytes. The first `kept` bytes of `saved` are those of the last
+// accepted save. A script sets these lengths, beside memory of one size.
+#[derive(Drop)]
 pub struct Session {
     pub state: State,
+    pub memory: [u8; 65536],
     pub table: usize,
     pub reply: usize,
     pub snapshot: usize,
-    pub saved: usize,
+    pub saved: [u8; 65536],
+    pub kept: usize,
 }
 
-// Before the first line.
-pub fn first() -> Session
-    ensures { (m k : List ℕ) → 40000 ≤ length m → 40000 ≤ length k → Running result m k }
-{
-    Session {
-        state: pingvratha_blank(),
-        table: TABLE_BYTES,
-        reply: MOST_BYTES,
-        snapshot: SNAPSHOT_BYTES,
-        saved: 0,
+impl Session {
+    // Before the first line.
+    pub fn new() -> Session
+        ensures { Running result }
+    {
+        Session {
+            state: pingvratha_blank(),
+            memory: large_buffer(),
+            table: TABLE_BYTES,
+            reply: MOST_BYTES,
+            snapshot: SNAPSHOT_BYTES,
+            saved: large_buffer(),
+            kept: 0,
+        }
     }
-}
 
-// The lengths are at most 40000, 5000 and 40000.
-fn are_rooms(table: u64, reply: u64, snapshot: u64) -> bool
-    ensures { result ≡ true → (table ≤ 40000) × ((reply ≤ 5000) × (snapshot ≤ 40000)) }
-{
-    if 40000 < table {
-        return false;
+    // One line.
+    pub fn step(&mut self, out: &mut StandardOutput, line: &mut [u8])
+        requires { Running self.old }
+        ensures { Running self.new }
+    {
+        match Command::read(line) {
+            Some(command) => self.run(out, command, decode_last(line)),
+            None => out.write(b"bad line\n"),
+        }
     }
-    if 5000 < reply {
-        return false;
+
+    // What the line says.
+    fn run(&mut self, out: &mut StandardOutput, command: Command, bytes: &[u8])
+        requires { Running self.old }
+        ensures { Running self.new }
+    {
+        match command {
+            Command::Change(call) => {
+                let (s, table, reply) = (self.state, self.table, self.reply);
+                let saved = &self.saved[..self.kept];
+                let memory = &mut self.memory;
+                self.state = change(out, call, s, memory, table, reply, saved, bytes);
+            }
+            Command::Save { clock } => self.save(out, clock),
+            Command::Rooms {
+                table,
+                reply,
+                snapshot,
+            } => self.rooms(out, table, reply, snapshot),
+            Command::Show(call) => tell(out, call, self.state, &self.memory[..self.table]),
+            Command::State => state(out, &self.state, &self.memory),
+            Command::Totals => totals(out, bytes),
+        }
     }
-    snapshot <= 40000
-}
 
-// The lengths of what is lent.
-fn rooms(out: &mut StandardOutput, x: Session, v: [u64; 8]) -> Session
-    ensures { (m k : List ℕ) → Running x m k → Running result m k }
-{
-    if !are_rooms(v[0], v[1], v[2]) {
-        write(out, b"bad line\n");
-        return x;
+    // The lengths of what is lent: at most 40000, 5000 and 40000.
+    fn rooms(&mut self, out: &mut StandardOutput, table: u64, reply: u64, snapshot: u64)
+        requires { Running self.old }
+        ensures { Running self.new }
+    {
+        if table <= 40000 && reply <= 5000 && snapshot <= 40000 {
+            self.table = table as usize;
+            self.reply = reply as usize;
+            self.snapshot = snapshot as usize;
+        } else {
+            out.write(b"bad line\n");
+        }
     }
-    let mut r = x;
-    r.table = v[0] as usize;
-    r.reply = v[1] as usize;
-    r.snapshot = v[2] as usize;
-    r
-}
 
-// An accepted save is kept.
-fn saving(out: &mut StandardOutput, x: Session, mem: &[u8], saved: &mut [u8], clock: u64) -> Session
-    requires { Running x mem.now saved.old }
-    ensures { Running result mem.now saved.new }
-{
-    let mut room = large_buffer();
-    let t = x.table;
-    let q = x.snapshot;
-    let a = save(out, x.state, &mem[..t], &mut room[..q], clock);
-    if a.number != 0 {
-        return x;
-    }
-    let n = a.length;
-    copy(&mut saved[..n], &room[..n]);
-    let mut r = x;
-    r.saved = n;
-    r
-}
-
-// What the line says: the forms stand in the order of the names.
-fn said(line: &mut [u8]) -> Line
-    ensures { (result.start ≤ result.end) × (result.end ≤ length line.old) }
-{
-    let names =
-        b"begin resume receive tick keep-alive pay purge save rooms total sum marks show state totals";
-    let forms = b"ncnnnn cnnnns cnknnnnh cnnnnn cnnnnnn cnnannnn cnnnn c ccc cn c c n  h";
-    read_line(line, names, forms)
-}
-
-// One line.
-pub fn step(
-    out: &mut StandardOutput,
-    x: Session,
-    mem: &mut [u8],
-    saved: &mut [u8],
-    line: &mut [u8],
-) -> Session
-    requires { Running x mem.old saved.old }
-    ensures { Running result mem.new saved.new }
-{
-    let l = said(line);
-    if !l.ok {
-        write(out, b"bad line\n");
-        return x;
-    }
-    let start = l.start;
-    let end = l.end;
-    let v = l.values;
-    run(out, l.which, x, mem, saved, &line[start..end], v)
-}
-
-// The line at the place `which` among the names.
-fn run(
-    out: &mut StandardOutput,
-    which: usize,
-    x: Session,
-    mem: &mut [u8],
-    saved: &mut [u8],
-    bytes: &[u8],
-    v: [u64; 8],
-) -> Session
-    requires { Running x mem.old saved.old }
-    ensures { Running result mem.new saved.new }
-{
-    let t = x.table;
-    if which < CHANGING {
-        let n = x.saved;
-        let s = change(
+    // An accepted save is kept.
+    fn save(&mut self, out: &mut StandardOutput, clock: u64)
+        requires { Running self.old }
+        ensures { Running self.new }
+    {
+        let mut room = large_buffer();
+        let a = save(
             out,
-            which,
-            x.state,
-            &mut mem[..t],
-            x.reply,
-            &saved[..n],
-            bytes,
-            v,
+            self.state,
+            &self.memory[..self.table],
+            &mut room[..self.snapshot],
+            clock,
         );
-        let mut r = x;
-        r.state = s;
-        return r;
+        if a.number == 0 {
+            let n = a.length;
+            self.saved[..n].copy_from_slice(&room[..n]);
+            self.kept = n;
+        }
     }
-    if which == SAVE {
-        return saving(out, x, mem, saved, v[0]);
-    }
-    if which < PRINTING {
-        return rooms(out, x, v);
-    }
-    print(out, which, x.state, mem, t, bytes, v);
-    x
-}
-
-// A line that prints alone: calls are lent the first t bytes of the table memory.
-fn print(
-    out: &mut StandardOutput,
-    which: usize,
-    s: State,
-    mem: &[u8],
-    t: usize,
-    bytes: &[u8],
-    v: [u64; 8],
-)
-    requires { AsLeft s mem.now × ((t ≤ length mem.now) × (40000 ≤ length mem.now)) }
-{
-    if which < STATE {
-        tell(out, which, s, &mem[..t], v);
-        return;
-    }
-    if which == STATE {
-        state(out, s, mem);
-        return;
-    }
-    totals(out, bytes);
 }

@@ -2,57 +2,54 @@
 ghost use Rattle.std.specs.Prelude.{◌≤◌, length};
 ghost use Rattle.ledger.specs.Promises.{AsLeft};
 
-use console::output::{StandardOutput, line_of_bytes};
+use crate::command::Show;
+use console::output::StandardOutput;
 use ledger::answers::Saved;
 use ledger::look;
-use listing::answers::{marked, summed};
+use listing::answers::{marked, summed, with_bytes};
 use node::State;
-use text::forms::small;
 
 // Of one household.
-fn total(out: &mut StandardOutput, s: State, mem: &[u8], v: [u64; 8])
+fn total(out: &mut StandardOutput, s: State, mem: &[u8], clock: u64, household: u32)
     requires { AsLeft s mem.now }
 {
-    let a = look::pingvratha_total(s, mem, v[0], small(v[1]));
-    summed(out, b"total ", a.number, a.value, a.unread);
+    let a = look::pingvratha_total(s, mem, clock, household);
+    summed(out, "total", a.number, a.value, a.unread);
 }
 
 // Of all households.
-fn sum(out: &mut StandardOutput, s: State, mem: &[u8], v: [u64; 8])
+fn sum(out: &mut StandardOutput, s: State, mem: &[u8], clock: u64)
     requires { AsLeft s mem.now }
 {
-    let a = look::pingvratha_sum(s, mem, v[0]);
-    summed(out, b"sum ", a.number, a.value, a.unread);
+    let a = look::pingvratha_sum(s, mem, clock);
+    summed(out, "sum", a.number, a.value, a.unread);
 }
 
 // The reachable nodes, the last level and the network digest.
-fn marks(out: &mut StandardOutput, s: State, mem: &[u8], v: [u64; 8])
+fn marks(out: &mut StandardOutput, s: State, mem: &[u8], clock: u64)
     requires { AsLeft s mem.now }
 {
-    let a = look::pingvratha_marks(s, mem, v[0]);
-    let digest = a.digest;
-    let nodes = a.nodes;
-    marked(out, a.number, a.count, a.levels, &digest, &nodes);
+    let a = look::pingvratha_marks(s, mem, clock);
+    marked(out, a.number, a.count, a.levels, &a.digest, &a.nodes);
 }
 
 // One node's data.
-fn show(out: &mut StandardOutput, s: State, mem: &[u8], v: [u64; 8])
+fn show(out: &mut StandardOutput, s: State, mem: &[u8], node: u32)
     requires { AsLeft s mem.now }
 {
-    let node = small(v[0]);
     let number = look::pingvratha_show_refusal(s, mem, node);
-    line_of_bytes(out, b"show ", number, look::show(s, mem, node));
+    with_bytes(out, "show", number, look::show(s, mem, node));
 }
 
-// The call of the line, by the place of its name: total, sum, marks, show.
-pub fn tell(out: &mut StandardOutput, which: usize, s: State, mem: &[u8], v: [u64; 8])
+// The call of the line.
+pub fn tell(out: &mut StandardOutput, call: Show, s: State, mem: &[u8])
     requires { AsLeft s mem.now }
 {
-    match which {
-        9 => total(out, s, mem, v),
-        10 => sum(out, s, mem, v),
-        11 => marks(out, s, mem, v),
-        _ => show(out, s, mem, v),
+    match call {
+        Show::Total { clock, household } => total(out, s, mem, clock, household),
+        Show::Sum { clock } => sum(out, s, mem, clock),
+        Show::Marks { clock } => marks(out, s, mem, clock),
+        Show::Node { id } => show(out, s, mem, id),
     }
 }
 
@@ -62,7 +59,6 @@ pub fn save(out: &mut StandardOutput, s: State, mem: &[u8], room: &mut [u8], clo
     ensures { (result.length ≤ length room.old) × (result.length ≤ length room.new) }
 {
     let a = look::pingvratha_save(s, mem, room, clock);
-    let n = a.length;
-    line_of_bytes(out, b"save ", a.number, &room[..n]);
+    with_bytes(out, "save", a.number, &room[..a.length]);
     a
 }

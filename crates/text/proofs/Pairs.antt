@@ -3,16 +3,22 @@ use mathlib.Core.Path.{◌≡◌, refl, ap, ◌∙◌}
 use mathlib.Core.List.{List, [], ◌∷◌}
 use Prim.Native.Nat.{ℕ, ◌+◌, ◌*◌, ◌/◌, ◌%◌, ◌≤◌, ◌<◌}
 use native.Mathlib.Omega.{arith}
-use lib.ListN.{length, get_or, set, drop, length-set, drop_of_length-le}
+use lib.ListN.{length, get_or, set, take, drop, length-set, drop_of_length-le}
 use Rattle.base.specs.Memory.{written}
 use Rattle.base.proofs.Lists.{drop-next}
-use Rattle.base.proofs.Written.{written_none, written_on}
+use Rattle.base.proofs.Written.{written_none, written_on, part-there}
+use Rattle.std.specs.Prelude.{All, ltb}
+use Rattle.std.specs.Str.{IsUtf8}
+use Rattle.std.proofs.lemmas.Str.{IsUtf8-from_ascii}
+use Rattle.std.proofs.lemmas.List.Elements.{All-nil, All-cons, All-head, All-tail, All-from_get_or}
+use Rattle.std.proofs.lemmas.List.{get_or_past}
+use Rattle.base.proofs.Tests.{by_test, by_order}
 use Rattle.text.specs.Hexadecimal.{glyph, pairs, hexadecimal}
 
-pub pairs-length : (s : List ℕ) → length (pairs s) ≡ 2 * length s
+pub pairs_length : (s : List ℕ) → length (pairs s) ≡ 2 * length s
 unfolding pairs
-pairs-length [] = refl
-pairs-length (b ∷ s) = omega (arith, pairs-length s)
+pairs_length [] = refl
+pairs_length (b ∷ s) = omega (arith, pairs_length s)
 
 pub pairs_next : (b : ℕ) (s : List ℕ) → pairs (b ∷ s) ≡ glyph (b / 16) ∷ glyph (b % 16) ∷ pairs s
 unfolding pairs
@@ -50,4 +56,35 @@ hex_some (b ∷ s) h = refl
 pub hex_short : (s : List ℕ) → length (hexadecimal s) ≤ 2 * length s + 1
 unfolding hexadecimal
 hex_short [] = omega arith
-hex_short (b ∷ s) = omega (arith, pairs-length (b ∷ s))
+hex_short (b ∷ s) = omega (arith, pairs_length (b ∷ s))
+
+-- ---- as ASCII
+
+-- a half of a byte counts a digit
+glyph_below : (d : ℕ) → d < 16 → glyph d < 128
+glyph_below d h = by_test (ltb d 10) (λ t. rw t (omega arith)) (λ f. rw f (omega arith))
+
+pub pairs-ascii : (s : List ℕ) → All (λ b. b < 256) s → All (λ x. x < 128) (pairs s)
+unfolding pairs
+pairs-ascii [] h = All-nil (λ x. x < 128)
+pairs-ascii (b ∷ s) h =
+    let l : b < 256 = All-head (λ x. x < 256) b s h in
+    All-cons (λ x. x < 128) (glyph (b / 16)) (glyph (b % 16) ∷ pairs s) (glyph_below (b / 16) (omega arith))
+    (All-cons (λ x. x < 128) (glyph (b % 16)) (pairs s) (glyph_below (b % 16) (omega arith)) (pairs-ascii s (All-tail (λ x. x < 256) b s h)))
+
+pub hexadecimal-ascii : (s : List ℕ) → All (λ b. b < 256) s → All (λ x. x < 128) (hexadecimal s)
+unfolding hexadecimal
+hexadecimal-ascii [] h = All-cons (λ x. x < 128) 45 [] (omega arith) (All-nil (λ x. x < 128))
+hexadecimal-ascii (b ∷ s) h = pairs-ascii (b ∷ s) h
+
+-- what put_hex leaves at the front of the room
+pub hexadecimal_is_text : (s room room' : List ℕ) (k : ℕ) → room' ≡ written room 0 (hexadecimal s) → k ≡ 0 + length (hexadecimal s) → length (hexadecimal s) ≤ length room
+    → ((i : ℕ) → get_or s i 0 < 256) → IsUtf8 (take k room')
+hexadecimal_is_text s room room' k w e l h =
+    let x : List ℕ = hexadecimal s in
+    let a : All (λ b. b < 128) x = hexadecimal-ascii s (All-from_get_or (λ b. b < 256) s 0 (λ i j. h i)) in
+    let there : take k room' ≡ x = part-there room room' x 0 k w (omega arith) (omega arith) in
+    let past : (i : ℕ) → length x ≤ i → get_or x i 0 < 128 = λ i l. let e : get_or x i 0 ≡ 0 = get_or_past x i 0 l in omega (arith, e) in
+    let at : (i : ℕ) → get_or x i 0 < 128 =
+    λ i. by_order i (length x) (λ l. a i 0 l) (λ q. past i (omega arith)) (λ l. past i (omega arith)) in
+    rw there (IsUtf8-from_ascii x at)

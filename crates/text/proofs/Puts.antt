@@ -3,8 +3,7 @@ use mathlib.Core.List.{List, [], ◌∷◌, ◌++◌}
 use Prim.Native.Nat.{ℕ, ◌+◌, ◌≤◌, ◌<◌}
 use mathlib.Core.Path.{◌≡◌, sym}
 use native.Mathlib.Omega.{arith}
-use lib.ListN.{length, take, set, length-append, length-set}
-use lib.Seq.{length-take-le}
+use lib.ListN.{length, set, length-append, length-set}
 use lib.IntN.{ℤ}
 use Rattle.base.proofs.Written.{written_none, written_last, written_more}
 use Rattle.text.specs.Decimal.{signed}
@@ -57,11 +56,3 @@ module _ (room : List ℕ) (at : ℕ) (v : ℤ) (h : at + length (32 ∷ (signed
         put_front 32 (signed v ++ (10 ∷ [])) room at (set room1 e 10) (e + 1)
         (put_then (signed v) (10 ∷ []) (set room at 32) (at + 1) room1 e (set room1 e 10) (e + 1) p (put_one room1 e 10 cents_end) (omega (arith, cents_length, length-set room at 32)))
         h
-
--- what is put lies within the room, and a front of it has as many bytes as were asked for
-module _ (s room : List ℕ) (at : ℕ) (room' : List ℕ) (r : ℕ) (p : Put s room at room' r) (l : length room' ≡ length room) (h : at + length s ≤ length room) where
-  pub put-within : r ≤ length room'
-  put-within = omega (arith, p.next, l)
-
-  pub put-counted : r ≡ length (take r room')
-  put-counted = sym (length-take-le r room' put-within)

@@ -1,7 +1,6 @@
 // Text as bytes: numbers, bytes in hexadecimal and words, read and written. Nothing here reads input or prints: see the crate `console`.
 #![tactic(auto)]
 
-pub mod forms;
 pub mod hexadecimal;
 pub mod numbers;
 pub mod words;

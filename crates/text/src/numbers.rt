@@ -1,8 +1,7 @@
 // Decimal numbers: written, each put at a place of the room with the place after it as the answer, and read.
-ghost use Rattle.std.specs.Prelude.{◌≡◌, [], ◌∷◌, ◌++◌, ◌+◌, ◌≤◌, length};
-ghost use Rattle.std.proofs.Math.Option.{none};
+ghost use Rattle.std.specs.Prelude.{◌≡◌, [], ◌∷◌, ◌++◌, ◌+◌, ◌≤◌, length, IfSome};
 ghost use Rattle.text.specs.Decimal.{decimal, signed, line};
-ghost use Rattle.text.specs.Reading.{given, with_digit, read_decimal, read_amount};
+ghost use Rattle.text.specs.Reading.{with_digit, read_decimal, read_amount};
 ghost use Rattle.text.specs.Room.{Put};
 
 use base::memory::store;
@@ -11,29 +10,20 @@ use base::memory::store;
 fn places(n: u64) -> usize
     ensures { result ≡ length (decimal n) }
 {
-    let mut k = 1;
-    let mut rest = n;
-    while 10 <= rest {
-        rest = rest / 10;
-        k += 1;
-    }
-    k
+    n.max(1).ilog10() as usize + 1
 }
 
-// The digits of n, the last first.
+// The digits of n, the last first. Those that `write!` writes are known to stand there only where it answers Ok, and here they always do.
 pub fn put_decimal(room: &mut [u8], at: usize, n: u64) -> usize
     requires { at + length (decimal n) ≤ length room.old }
     ensures { Put (decimal n) room.old at room.new result }
 {
     let end = at + places(n);
-    let mut i = end;
     let mut rest = n;
-    while 10 <= rest {
-        i -= 1;
-        room[i] = 48 + (rest % 10) as u8;
-        rest = rest / 10;
+    for i in (at..end).rev() {
+        room[i] = b'0' + (rest % 10) as u8;
+        rest /= 10;
     }
-    room[at] = 48 + rest as u8;
     end
 }
 
@@ -43,11 +33,10 @@ pub fn put_signed(room: &mut [u8], at: usize, v: i64) -> usize
     ensures { Put (signed v) room.old at room.new result }
 {
     if v < 0 {
-        room[at] = 45;
-        let m = -1 - v;
-        return put_decimal(room, at + 1, m as u64 + 1);
+        room[at] = b'-';
+        return put_decimal(room, at + 1, v.unsigned_abs());
     }
-    put_decimal(room, at, v as u64)
+    put_decimal(room, at, v.unsigned_abs())
 }
 
 // A space, the cents, and the line's end.
@@ -55,9 +44,9 @@ pub fn put_cents(room: &mut [u8], at: usize, v: i64) -> usize
     requires { at + length (32 ∷ (signed v ++ (10 ∷ []))) ≤ length room.old }
     ensures { Put (32 ∷ (signed v ++ (10 ∷ []))) room.old at room.new result }
 {
-    room[at] = 32;
+    room[at] = b' ';
     let e = put_signed(room, at + 1, v);
-    room[e] = 10;
+    room[e] = b'\n';
     e + 1
 }
 
@@ -70,89 +59,42 @@ pub fn put_line(room: &mut [u8], at: usize, name: &[u8], v: i64) -> usize
     put_cents(room, at + name.len(), v)
 }
 
-// A word as a number, if it is of its form.
-#[derive(Clone, Copy)]
-pub struct Value {
-    pub ok: bool,
-    pub number: u64,
-}
-
-// No value.
-fn bad() -> Value
-    ensures { (given result ≡ none) × (result.number ≤ 0) }
-{
-    Value {
-        ok: false,
-        number: 0,
-    }
-}
-
 // The number n with the digit b behind it.
-fn with_digit(n: u64, b: u8, most: u64) -> Value
-    ensures { (given result ≡ with_digit most n b) × (result.number ≤ most) }
+#[tactic(auto, unfolding(crate::specs::Reading::with_digit))]
+fn with_digit(n: u64, b: u8, most: u64) -> Option<u64>
+    ensures { (result ≡ with_digit most n b) × IfSome result (λ m. m ≤ most) }
 {
-    if b < b'0' {
-        return bad();
+    if !b.is_ascii_digit() {
+        return None;
     }
-    if b'9' < b {
-        return bad();
-    }
-    let d = (b - b'0') as u64;
-    if most < d {
-        return bad();
-    }
-    if (most - d) / 10 < n {
-        return bad();
-    }
-    Value {
-        ok: true,
-        number: n * 10 + d,
-    }
+    let longer = n.checked_mul(10)?.checked_add(u64::from(b - b'0'))?;
+    if longer <= most { Some(longer) } else { None }
 }
 
-// Decimal digits, at least one, of a number that is at most `most`.
-pub fn number(word: &[u8], most: u64) -> Value
-    ensures { (given result ≡ read_decimal most word.now) × (result.number ≤ most) }
+// Decimal digits, at least one, of a number that is at most `most`. `parse` takes a plus sign too, and has no bound.
+pub fn number(word: &[u8], most: u64) -> Option<u64>
+    ensures { (result ≡ read_decimal most word.now) × IfSome result (λ n. n ≤ most) }
 {
-    if word.len() == 0 {
-        return bad();
+    if word.is_empty() {
+        return None;
     }
     let mut n = 0;
-    let mut i = 0;
-    while i < word.len() {
-        let v = with_digit(n, word[i], most);
-        if !v.ok {
-            return v;
-        }
-        n = v.number;
-        i += 1;
+    for b in word {
+        n = with_digit(n, *b, most)?;
     }
-    Value {
-        ok: true,
-        number: n,
-    }
+    Some(n)
 }
 
 // A number, with a minus sign before it if it is negative, folded: 0, -1, 1, -2 become 0, 1, 2, 3.
-pub fn amount(word: &[u8]) -> Value
-    ensures { given result ≡ read_amount word.now }
+pub fn amount(word: &[u8]) -> Option<u32>
+    ensures { result ≡ read_amount word.now }
 {
-    if word.len() == 0 {
-        return bad();
-    }
-    if word[0] != b'-' {
-        let v = number(word, 2147483647);
-        return Value {
-            ok: v.ok,
-            number: v.number * 2,
-        };
-    }
-    let v = number(&word[1..], 2147483648);
-    if v.number == 0 {
-        return v;
-    }
-    Value {
-        ok: v.ok,
-        number: v.number * 2 - 1,
+    let (first, digits) = word.split_first()?;
+    if *first == b'-' {
+        let n = number(digits, 2147483648)?;
+        Some((n * 2).saturating_sub(1) as u32)
+    } else {
+        let n = number(word, 2147483647)?;
+        Some((n * 2) as u32)
     }
 }

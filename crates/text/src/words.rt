@@ -1,68 +1,88 @@
-// The words of a line: exactly one space stands between two.
+// The words of a line, each read as what the line is to say: exactly one space stands between two.
 ghost use Rattle.std.specs.Prelude.{◌≤◌, length};
 
-use wire::order::is_same;
+use crate::hexadecimal::{decode, is_hex};
+use crate::numbers::{amount, number};
 
-// Where a word stands in its line.
-#[derive(Clone, Copy)]
-pub struct Part {
-    pub start: usize,
-    pub end: usize,
+// The words that are left: none after the last.
+#[derive(Clone, Copy, Drop)]
+pub struct Words<'a> {
+    rest: Option<&'a [u8]>,
 }
 
-// How many words there are.
-pub fn count(line: &[u8]) -> usize {
-    let mut n = 1;
-    let mut at = 0;
-    while at < line.len() {
-        if line[at] == b' ' {
-            n += 1;
-        }
-        at += 1;
+impl<'a> Iterator for Words<'a> {
+    type Item = &'a [u8];
+
+    fn next(&mut self) -> Option<&'a [u8]> {
+        let mut parts = self.rest?.splitn(2, |b| *b == b' ');
+        let word = parts.next();
+        self.rest = parts.next();
+        word
     }
-    n
 }
 
-// Word i, from 0 on; the last where there are fewer.
-pub fn word(line: &[u8], i: usize) -> Part
-    ensures { (result.start ≤ result.end) × (result.end ≤ length line.now) }
-{
-    let mut left = i;
-    let mut start = 0;
-    let mut at = 0;
-    while at < line.len() {
-        if line[at] == b' ' {
-            if left == 0 {
-                return Part { start, end: at };
-            }
-            left -= 1;
-            start = at + 1;
-        }
-        at += 1;
+impl<'a> Words<'a> {
+    // All words of the line.
+    pub fn of(line: &'a [u8]) -> Words<'a> {
+        Words { rest: Some(line) }
     }
-    Part { start, end: at }
-}
 
-// Which of the names the line begins with; as many as there are names where with none.
-pub fn first_among(names: &[u8], line: &[u8]) -> usize {
-    let p = word(line, 0);
-    let start = p.start;
-    let end = p.end;
-    place_among(names, &line[start..end])
-}
-
-// Which of the names it is.
-fn place_among(names: &[u8], name: &[u8]) -> usize {
-    let n = count(names);
-    let mut i = 0;
-    while i < n {
-        let p = word(names, i);
-        let start = p.start;
-        let end = p.end;
-        if is_same(&names[start..end], name) {
-            return i;
-        }
-        i += 1;
+    // A number of 64 bits.
+    pub fn long(&mut self) -> Option<u64> {
+        number(self.next()?, u64::MAX)
     }
-    i
+
+    // A number of 32 bits.
+    pub fn small(&mut self) -> Option<u32> {
+        let n = number(self.next()?, u64::from(u32::MAX))?;
+        Some(n as u32)
+    }
+
+    // Four numbers of 32 bits.
+    pub fn four(&mut self) -> Option<[u32; 4]> {
+        Some([self.small()?, self.small()?, self.small()?, self.small()?])
+    }
+
+    // An amount, folded.
+    pub fn amount(&mut self) -> Option<u32> {
+        amount(self.next()?)
+    }
+
+    // Whether it is `u` for unicast, and not `m` for multicast.
+    pub fn is_unicast(&mut self) -> Option<bool> {
+        match self.next()? {
+            b"u" => Some(true),
+            b"m" => Some(false),
+            _ => None,
+        }
+    }
+
+    // Bytes: they are decoded where they stand, with `decode_last`.
+    pub fn bytes(&mut self) -> Option<()> {
+        is_hex(self.next()?).then_some(())
+    }
+
+    // Whether it is `last`, for the last accepted save, and not bytes.
+    pub fn is_last(&mut self) -> Option<bool> {
+        match self.next()? {
+            b"last" => Some(true),
+            word => is_hex(word).then_some(false),
+        }
+    }
+
+    // No more words.
+    pub fn end(&mut self) -> Option<()> {
+        self.next().is_none().then_some(())
+    }
+}
+
+// The bytes that the last word of the line stands for, put over its front.
+pub fn decode_last(line: &mut [u8]) -> &[u8] {
+    let start = match line.iter().rposition(|b| *b == b' ') {
+        Some(at) => at + 1,
+        None => 0,
+    };
+    let word = &mut line[start..];
+    let n = decode(word);
+    &word[..n]
 }

@@ -1,21 +1,24 @@
-use mathlib.Core.Path.{sym, ap, ◌∙◌}
+use mathlib.Core.Path.{sym}
 use native.Mathlib.Omega.{arith}
-use Rattle.base.proofs.Lists.{rest-is}
-use Rattle.text.specs.Reading.{read_decimal}
-use Rattle.text.proofs.Onward.{amount-none, amount_up, amount_down, amount-zero}
+use Rattle.std.proofs.Common.{rules, Some, None}
+use Rattle.text.proofs.Onward.{amount-none, amount_up, amount_down}
 use Rattle.text.proofs.numbers.amount.Goals as goal
 
-pub returns-then-word-eq0 : goal.returns-then-word-eq0
-returns-then-word-eq0 c = c.bad.ensures.0 ∙ sym (amount-none c.args.word.now (omega arith))
+pub returns-in_err-first : goal.returns-in_err-first
+returns-in_err-first c = rw c.from_residual.ensures (sym (amount-none c.args.word.now (search rules)))
 
-pub returns-then-word-ne45 : goal.returns-then-word-ne45
-returns-then-word-ne45 c =
-    amount_up c.args.word.now c.number-v.result (omega arith) (λ e. omega arith) c.number-v.ensures.0
+pub returns-in_err-n : goal.returns-in_err-n
+returns-in_err-n c =
+    rw c.from_residual-in_err-n.ensures (amount_down c.args.word.now c.in_ok-first.digits.now c.in_ok-first.first.now (search rules) None (omega arith) c.in_err-n.ensures.0)
 
-pub returns-then-v-eq0 : goal.returns-then-v-eq0
-returns-then-v-eq0 c =
-    amount-zero c.args.word.now c.number-v-2.result (omega arith) (omega arith) (c.number-v-2.ensures.0 ∙ ap (read_decimal 2147483648) (rest-is c.args.word.now 1)) (omega arith)
+pub returns-in_err-n-2 : goal.returns-in_err-n-2
+returns-in_err-n-2 c =
+    rw c.from_residual-in_err-n-2.ensures (amount_up c.args.word.now c.in_ok-first.digits.now c.in_ok-first.first.now (search rules) None (omega arith) c.in_err-n-2.ensures.0)
 
-pub returns : goal.returns
-returns c =
-    amount_down c.args.word.now c.number-v-2.result (omega arith) (omega arith) (c.number-v-2.ensures.0 ∙ ap (read_decimal 2147483648) (rest-is c.args.word.now 1))
+pub returns-in_ok-n : goal.returns-in_ok-n
+returns-in_ok-n c =
+    rw c.saturating_sub.ensures (amount_down c.args.word.now c.in_ok-first.digits.now c.in_ok-first.first.now (search rules) (Some c.in_ok-n.n) (omega arith) c.in_ok-n.ensures.0)
+
+pub returns-in_ok-n-2 : goal.returns-in_ok-n-2
+returns-in_ok-n-2 c =
+    amount_up c.args.word.now c.in_ok-first.digits.now c.in_ok-first.first.now (search rules) (Some c.in_ok-n-2.n) (omega arith) c.in_ok-n-2.ensures.0

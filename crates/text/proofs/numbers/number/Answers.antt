@@ -1,25 +1,22 @@
+use Rattle.std.proofs.Common.{rules, Some, None}
 use mathlib.Core.Path.{sym, ◌∙◌}
-use borrow.Author.Tests.{not-true, not-false}
 use native.Mathlib.Omega.{arith}
-use Rattle.text.proofs.Onward.{read_none, read-start, read_end, read_next, read_stop}
+use Rattle.text.proofs.Onward.{read_none, read-start, read_end, read_next}
 use Rattle.text.proofs.numbers.number.Goals as goal
 
-pub returns-then-word-eq0 : goal.returns-then-word-eq0
-returns-then-word-eq0 c =
-    (c.bad.ensures.0 ∙ sym (read_none c.args.most c.args.word.now (omega arith)), omega (arith, c.bad.ensures.1))
+pub returns-then-is_empty : goal.returns-then-is_empty
+returns-then-is_empty c = (sym (read_none c.args.most c.args.word.now (search rules)), tt)
 
-pub loop-i-init : goal.loop-i-init
-loop-i-init c =
-    (omega arith, (omega arith, read-start c.args.most c.args.word.now (omega arith)))
+pub loop-b-init : goal.loop-b-init
+loop-b-init c = (omega arith, read-start c.args.most c.args.word.now (search rules))
 
-pub returns-then-not-v : goal.returns-then-not-v
-returns-then-not-v c =
-    (sym (c.loop-i.invariant.1.1 ∙ read_stop c.args.most c.loop-i.n c.args.word.now c.loop-i.i (omega arith) c.with_digit-v.result c.with_digit-v.ensures.0 (not-true _ c.if-not-v.true)), c.with_digit-v.ensures.1)
+pub returns-in_err-n : goal.returns-in_err-n
+returns-in_err-n c =
+    rw c.from_residual.ensures (sym (c.loop-b.invariant.1 ∙ read_next c.args.most c.loop-b.n c.args.word.now c.loop-b.b-index (omega arith) None c.in_err-n.ensures.0), tt)
 
-pub loop-i-preserved : goal.loop-i-preserved
-loop-i-preserved c =
-    (omega arith, (c.with_digit-v.ensures.1, c.loop-i.invariant.1.1 ∙ read_next c.args.most c.loop-i.n c.args.word.now c.loop-i.i (omega arith) c.with_digit-v.result c.with_digit-v.ensures.0 (not-false _ c.if-not-v.false)))
+pub loop-b-preserved : goal.loop-b-preserved
+loop-b-preserved c =
+    (c.in_ok-n.ensures.1, c.loop-b.invariant.1 ∙ read_next c.args.most c.loop-b.n c.args.word.now c.loop-b.b-index (omega arith) (Some c.in_ok-n.n) c.in_ok-n.ensures.0)
 
 pub returns : goal.returns
-returns c =
-    (sym (c.loop-i.invariant.1.1 ∙ read_end c.args.most c.loop-i.n c.args.word.now c.loop-i.i (omega arith)), c.loop-i.invariant.1.0)
+returns c = (sym (c.loop-b.invariant.1 ∙ read_end c.args.most c.loop-b.n c.args.word.now c.loop-b.b-index (omega arith)), c.loop-b.invariant.0)

@@ -1,5 +1,5 @@
 use Rattle.std.proofs.Common.{length, ◌-◌, ◌≤◌, ◌≡◌}
-use Rattle.console.proofs.input.read_full.Given as goal
+use Rattle.console.proofs.input.StandardInput.read_full.Given as goal
 
 abbrev pub invariant-loop-done : goal.invariant-loop-done
 invariant-loop-done l = (l.done ≤ length l.room) × (length l.room ≡ length l.initial.room)
