@@ -79,7 +79,8 @@ def figures():
 
 def refusals():
     """{number: (name, words)}: its name in code, and the documents' words at its definition; where calls define it differently, the words of each."""
-    names = {int(n): name for name, n in re.findall(r'pub const (\w+): u32 = (\d+);', read('crates/model/src/numbers.rt'))}
+    named = re.findall(r'^    (\w+) = (\d+),$', read('crates/model/src/numbers.rt'), re.M)
+    names = {int(n): re.sub(r'\B(?=[A-Z])', '_', name).upper() for name, n in named}
     words = {}
     for path in sorted(SPECS.glob('*.antt'), key=lambda p: (p.stem != 'Refusals', p)):  # document 01's words first
         for n, text in re.findall(r'(?:^--|;) (\d+): "([^"]+)"', read(path), re.M):
