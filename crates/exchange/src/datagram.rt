@@ -3,7 +3,7 @@ ghost use Rattle.std.specs.Prelude.{◌≡◌, IfSome, true, ◌≤◌, length};
 ghost use Rattle.base.specs.Lists.{any};
 ghost use Rattle.wire.specs.Row.{is_row, tlvs};
 ghost use Rattle.wire.specs.Answers.{tlv_of, Tells};
-ghost use Rattle.model.specs.Figures.{most_endpoints, most_bytes, last_reading};
+ghost use Rattle.model.specs.Figures.{most_bytes};
 ghost use Rattle.model.specs.Receive.{about_other};
 ghost use Rattle.model.specs.Invariant.{Midway};
 ghost use Rattle.node.specs.View.{state_of, Rep};
@@ -13,7 +13,9 @@ use crate::carry::{altered, answered, is_altering, is_meeting, met};
 use crate::marks::refreshed;
 use crate::tlv::{is_idle, on_tlv};
 use base::big_endian::read_u32;
+use model::endpoint::EndpointNumber;
 use model::figures::MOST_ENDPOINTS;
+use model::reading::Reading;
 use node::answers::Answer;
 use node::settle::settled;
 use node::{Endpoint, State};
@@ -74,24 +76,26 @@ pub fn handle(
     mem: &mut [u8],
     room: &mut [u8],
     datagram: &[u8],
-    clock: u64,
-    endpoint: u32,
+    clock: Reading,
+    endpoint: EndpointNumber,
     unicast: bool,
     randoms: [u32; MOST_ENDPOINTS],
 ) -> Answer
-    requires { Rep s mem.old × (Midway clock (state_of s mem.old) × ((clock ≤ last_reading) × ((1 ≤ endpoint) × ((endpoint ≤ most_endpoints) × ((most_bytes ≤ length room.old) × ((is_row datagram.now ≡ true) × (length datagram.now ≤ most_bytes))))))) }
+    requires { Rep s mem.old × (Midway clock (state_of s mem.old) × ((most_bytes ≤ length room.old) × ((is_row datagram.now ≡ true) × (length datagram.now ≤ most_bytes)))) }
     ensures { Handled s mem.old room.old datagram.now clock endpoint unicast randoms result mem.new room.new }
 {
+    let now = clock.milliseconds();
+    let number = endpoint.number();
     // Locals are indexed: an index into a parameter copies it whole.
-    let k = (endpoint - 1) as usize;
+    let k = (number - 1) as usize;
     let numbers = randoms;
     let random = numbers[k];
     let mut endpoints = s.endpoints;
     let local = endpoints[k];
     let call = Context {
         own: s.own,
-        clock,
-        endpoint,
+        clock: now,
+        endpoint: number,
         unicast,
         random,
         others: false,
@@ -123,7 +127,7 @@ pub fn handle(
     }
     let found = refreshed(d, t, mem, call);
     endpoints[k] = d.local;
-    let state = settled(s.own, t, p, endpoints, s.digest, clock, randoms, found);
+    let state = settled(s.own, t, p, endpoints, s.digest, now, randoms, found);
     Answer {
         number: 0,
         state,

@@ -12,7 +12,7 @@ use Rattle.base.specs.Lists.{is_some, or_else}
 use Rattle.wire.specs.Row.{tlvs}
 use Rattle.wire.specs.Order.{among}
 use Rattle.wire.specs.Payment.{Payment, payment_tlv}
-use Rattle.model.specs.Figures.{publish_limit, last_reading, most_keep_alive}
+use Rattle.model.specs.Figures.{publish_limit, most_keep_alive}
 use Rattle.model.specs.Sequence.{circle}
 use Rattle.model.specs.Table.{Entry}
 use Rattle.model.specs.Numbers.{number}
@@ -124,11 +124,11 @@ module _ {s : State} {m : List ℕ} (l : AsLeft s m) (clock : ℕ) (rs : List �
 
     -- what it says that none of the refusals applies
     pub choice_ready : 0 ≡ refusal_keep_alive clock i k (length m) (state_of s m)
-        → Rep s m × (Midway clock (state_of s m) × ((clock ≤ last_reading) × ((1 ≤ i) × ((i ≤ 4) × ((1 ≤ k) × ((k ≤ most_keep_alive) × (length (with_keep_alive i k (own_data (state_of s m))) ≤ publish_limit)))))))
+        → Rep s m × (Midway clock (state_of s m) × ((1 ≤ k) × ((k ≤ most_keep_alive) × (length (with_keep_alive i k (own_data (state_of s m))) ≤ publish_limit))))
     choice_ready e =
         let f = interval-accepted clock (state_of s m) i k (length m) (no_room i k (state_of s m) ∷ []) (omega arith) (sym e) in
         let r = ready l clock (f.0, (f.1.0, f.1.1.1.1.0)) in
-        (r.0, (r.1.0, (r.1.1, (f.1.1.0.0, (f.1.1.0.1, (f.1.1.1.0.0, (f.1.1.1.0.1, ltb-false publish_limit (length (with_keep_alive i k (own_data (state_of s m)))) f.1.1.1.1.1.0)))))))
+        (r.0, (r.1.0, (f.1.1.1.0.0, (f.1.1.1.0.1, ltb-false publish_limit (length (with_keep_alive i k (own_data (state_of s m)))) f.1.1.1.1.1.0))))
 
     pub choice_yes : (r : State) (m' : List ℕ) → 0 ≡ refusal_keep_alive clock i k (length m) (state_of s m) → Published (chosen clock i k rs (state_of s m)) s m r m'
         → Chooses clock i k rs s m (record { number = 0; state = r }) m'
@@ -144,12 +144,12 @@ module _ {s : State} {m : List ℕ} (l : AsLeft s m) (clock : ℕ) (rs : List �
     pay_no n e = publish_no (refusal_pay clock p (length m) (state_of s m)) (paid clock p rs (state_of s m)) n e
 
     pub pay_ready : 0 ≡ refusal_pay clock p (length m) (state_of s m)
-        → Rep s m × (Midway clock (state_of s m) × ((clock ≤ last_reading) × ((among (payment_tlv p) (tlvs (own_data (state_of s m))) ≡ false) × (length (own_data (state_of s m)) + length (payment_tlv p) ≤ publish_limit))))
+        → Rep s m × (Midway clock (state_of s m) × ((among (payment_tlv p) (tlvs (own_data (state_of s m))) ≡ false) × (length (own_data (state_of s m)) + length (payment_tlv p) ≤ publish_limit)))
     pay_ready e =
         let more : List Row = no_household p.household ∷ paid_already p (state_of s m) ∷ full p (state_of s m) ∷ [] in
         let f = table-accepted clock (state_of s m) (length m) more (omega arith) (sym e) in
         let r = ready l clock (f.0, (f.1.0, f.1.1.0)) in
-        (r.0, (r.1.0, (r.1.1, (f.1.1.1.1.0, ltb-false publish_limit (length (own_data (state_of s m)) + length (payment_tlv p)) f.1.1.1.1.1.0))))
+        (r.0, (r.1.0, (f.1.1.1.1.0, ltb-false publish_limit (length (own_data (state_of s m)) + length (payment_tlv p)) f.1.1.1.1.1.0)))
 
     pub pay_yes : (r : State) (m' : List ℕ) → 0 ≡ refusal_pay clock p (length m) (state_of s m) → Published (paid clock p rs (state_of s m)) s m r m'
         → Pays clock p rs s m (record { number = 0; state = r }) m'

@@ -6,7 +6,7 @@ use native.Mathlib.Omega.{arith}
 use lib.ListN.{length, drop, length-append, length-drop}
 use Rattle.base.specs.Memory.{written}
 use Rattle.base.proofs.Written.{part-there, written-above}
-use Rattle.model.specs.Figures.{last_reading, snapshot_bytes}
+use Rattle.model.specs.Figures.{snapshot_bytes}
 use Rattle.model.specs.Numbers.{number}
 use Rattle.model.specs.declared.numbers.Refusal.{Refusal}
 use Rattle.model.specs.State.{State as ModelState}
@@ -63,8 +63,8 @@ module _ (clock room : ℕ) {s : State} {m : List ℕ} (l : AsLeft s m) where
         → SavesTo (save clock (length m) room (state_of s m)) q (record { number = 0; length = r }) q'
     save_accepted q q' r h same = stored (saved s.own clock (view s.table m)) q q' r h same (save clock (length m) room (state_of s m)) accepted
 
-    pub save_ready : Kept s.table m × (TableFits s.own clock (view s.table m) × ((clock ≤ last_reading) × (snapshot_bytes ≤ room)))
+    pub save_ready : Kept s.table m × (TableFits s.own clock (view s.table m) × (snapshot_bytes ≤ room))
     unfolding state_of
     save_ready =
         let a = room-accepted clock (state_of s m) (length m) room snapshot_bytes (sym (f (state_of s m) (state-last s m))) in
-        ((left-rep l a.1.1.0).table, ((left-midway l a.1.1.0 clock a.1.0).table, (a.0, a.1.1.1)))
+        ((left-rep l a.1.1.0).table, ((left-midway l a.1.1.0 clock a.1.0).table, a.1.1.1))

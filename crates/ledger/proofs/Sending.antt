@@ -35,10 +35,10 @@ use Rattle.ledger.proofs.Answering.{refused, as_refused, as_accepted, ready}
 -- what a call may read and write whose refusals are past clock, endpoint and lent memory
 sending_ready : {s : State} {m : List ℕ} (q : List ℕ) → AsLeft s m → (clock endpoint : ℕ)
     → (clock ≤ last_reading) × (((state_of s m).last ≤ clock) × (((1 ≤ endpoint) × (endpoint ≤ 4)) × ((table_bytes ≤ length m) × (most_bytes ≤ length q))))
-    → Rep s m × (Midway clock (state_of s m) × ((clock ≤ last_reading) × ((1 ≤ endpoint) × ((endpoint ≤ 4) × (most_bytes ≤ length q)))))
+    → Rep s m × (Midway clock (state_of s m) × (most_bytes ≤ length q))
 sending_ready q l clock endpoint f =
     let r = ready l clock (f.0, (f.1.0, f.1.1.1.0)) in
-    (r.0, (r.1.0, (f.0, (f.1.1.0.0, (f.1.1.0.1, f.1.1.1.1)))))
+    (r.0, (r.1.0, f.1.1.1.1))
 
 module _ {s : State} {m : List ℕ} (q : List ℕ) (l : AsLeft s m) (clock endpoint : ℕ) (rs : List ℕ) where
   abbrev told : ℕ → ModelSent
@@ -66,7 +66,7 @@ module _ {s : State} {m : List ℕ} (q : List ℕ) (l : AsLeft s m) (clock endpo
     none : 0 ≡ refusal_tick clock endpoint (length m) (length q) (state_of s m)
     none = f (state_of s m) (state-last s m)
 
-    pub tick_ready : Rep s m × (Midway clock (state_of s m) × ((clock ≤ last_reading) × ((1 ≤ endpoint) × ((endpoint ≤ 4) × (most_bytes ≤ length q)))))
+    pub tick_ready : Rep s m × (Midway clock (state_of s m) × (most_bytes ≤ length q))
     tick_ready = sending_ready q l clock endpoint (endpoint-accepted clock (state_of s m) endpoint (length m) (length q) [] tt (sym none))
 
     pub tick_yes : (o : Sent) (m' q' : List ℕ) → TickedFrom s m q clock endpoint rs o m' q'
@@ -79,7 +79,7 @@ module _ {s : State} {m : List ℕ} (q : List ℕ) (l : AsLeft s m) (clock endpo
           wrote = λ y. subst (λ (es : List Entry). Wrote s.table m es o.state.table m') (sym (state-table o.state m') ∙ ap (λ (x : ModelSent). x.state.table) is) h.wrote;
           size = h.size;
           beyond = h.beyond;
-          within = omega (arith, h.used, h.room, tick_ready.1.1.1.1.1);
+          within = omega (arith, h.used, h.room, tick_ready.1.1);
           room = h.room;
           rest = h.rest;
           refused = λ z. absurd (z h.accepted);
@@ -113,13 +113,13 @@ module _ {s : State} {m : List ℕ} (q : List ℕ) (l : AsLeft s m) (datagram : 
     none-applies : 0 ≡ refusal_receive call (state_of s m)
     none-applies = f (state_of s m) (state-last s m)
 
-    pub receive_ready : Rep s m × (Midway clock (state_of s m) × ((clock ≤ last_reading) × ((1 ≤ endpoint) × ((endpoint ≤ 4) × ((most_bytes ≤ length q) × ((is_row datagram ≡ true) × (length datagram ≤ most_bytes)))))))
+    pub receive_ready : Rep s m × (Midway clock (state_of s m) × ((most_bytes ≤ length q) × ((is_row datagram ≡ true) × (length datagram ≤ most_bytes))))
     receive_ready =
         let more : List Row = long datagram ∷ no_row datagram ∷ [] in
         let rows : List Row = late clock ∷ back clock (state_of s m) ∷ no_such_endpoint endpoint ∷ small_room (length m) (length q) most_bytes ∷ more in
         let a : All (λ (r : Row). r.applies ≡ false) rows = none_first rows (omega arith) (sym none-applies) in
         let r = sending_ready q l clock endpoint (endpoint-accepted clock (state_of s m) endpoint (length m) (length q) more (omega arith) (sym none-applies)) in
-        (r.0, (r.1.0, (r.1.1.0, (r.1.1.1.0, (r.1.1.1.1.0, (r.1.1.1.1.1, (not-false (is_row datagram) a.1.1.1.1.1.0, ltb-false most_bytes (length datagram) a.1.1.1.1.0)))))))
+        (r.0, (r.1.0, (r.1.1, (not-false (is_row datagram) a.1.1.1.1.1.0, ltb-false most_bytes (length datagram) a.1.1.1.1.0))))
 
     pub receive_yes : (o : Answer) (m' q' : List ℕ) → Bytes datagram → Handled s m q datagram clock endpoint unicast rs o m' q'
         → Answers (receive call (state_of s m)) (tables_of (state_of s m) call) s m q o m' q'
@@ -131,7 +131,7 @@ module _ {s : State} {m : List ℕ} (q : List ℕ) (l : AsLeft s m) (datagram : 
           wrote = λ y. h.wrote;
           size = h.size;
           beyond = h.beyond;
-          within = omega (arith, h.used, h.room, receive_ready.1.1.1.1.1.0);
+          within = omega (arith, h.used, h.room, receive_ready.1.1.0);
           room = h.room;
           rest = h.rest;
           refused = λ z. absurd (z h.accepted);

@@ -2,6 +2,7 @@
 ghost use Rattle.ledger.specs.Promises.{Blank};
 
 use model::figures::{MOST_ENDPOINTS, MOST_NODES};
+use model::reading::Reading;
 use node::State;
 use start::begin::{fresh_endpoints, no_peers};
 use table::{Entry, Table};
@@ -37,7 +38,7 @@ pub fn pingvratha_blank() -> State
             entries: [ours; MOST_NODES],
         },
         peers: no_peers(),
-        endpoints: fresh_endpoints(0, [0; MOST_ENDPOINTS]),
+        endpoints: fresh_endpoints(Reading::zero(), [0; MOST_ENDPOINTS]),
         digest: ALONE,
     }
 }

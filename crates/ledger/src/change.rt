@@ -22,9 +22,9 @@ pub fn pingvratha_begin(
 {
     match refusal::of_start(clock, memory.len()) {
         Err(refusal) => Done::refused(refusal, state),
-        Ok(()) => Done {
+        Ok(now) => Done {
             number: 0,
-            state: start::begin::begin(own, clock, *randoms, memory),
+            state: start::begin::begin(own, now, *randoms, memory),
         },
     }
 }
@@ -41,14 +41,14 @@ pub fn pingvratha_resume(
     requires { AsLeft state memory.old }
     ensures { Resumes snapshot.now clock randoms.now state memory.old result memory.new }
 {
-    if let Err(refusal) = refusal::of_start(clock, memory.len()) {
-        return Done::refused(refusal, state);
-    }
-    match start::resume::resume(snapshot, memory, clock, *randoms) {
-        None => Done::refused(Refusal::NotASnapshot, state),
-        Some(next) => Done {
-            number: 0,
-            state: next,
+    match refusal::of_start(clock, memory.len()) {
+        Err(refusal) => Done::refused(refusal, state),
+        Ok(now) => match start::resume::resume(snapshot, memory, now, *randoms) {
+            None => Done::refused(Refusal::NotASnapshot, state),
+            Some(next) => Done {
+                number: 0,
+                state: next,
+            },
         },
     }
 }
@@ -77,8 +77,8 @@ pub fn pingvratha_receive(
         datagram,
     ) {
         Err(refusal) => Answer::refused(refusal, state),
-        Ok(()) => exchange::datagram::handle(
-            state, memory, room, datagram, clock, endpoint, unicast, *randoms,
+        Ok((now, place)) => exchange::datagram::handle(
+            state, memory, room, datagram, now, place, unicast, *randoms,
         ),
     }
 }
@@ -98,7 +98,7 @@ pub fn pingvratha_tick(
 {
     match refusal::of_tick(state.last, clock, endpoint, memory.len(), room.len()) {
         Err(refusal) => Sent::refused(refusal, state),
-        Ok(()) => upkeep::tick::tick(state, memory, room, clock, endpoint, *randoms),
+        Ok((now, place)) => upkeep::tick::tick(state, memory, room, now, place, *randoms),
     }
 }
 
@@ -118,9 +118,9 @@ pub fn pingvratha_keep_alive(
 {
     match refusal::of_choice(state, memory, clock, endpoint, interval) {
         Err(refusal) => Done::refused(refusal, state),
-        Ok(()) => Done {
+        Ok((now, place)) => Done {
             number: 0,
-            state: upkeep::choice::choose(state, memory, clock, endpoint, interval, *randoms),
+            state: upkeep::choice::choose(state, memory, now, place, interval, *randoms),
         },
     }
 }
@@ -146,9 +146,9 @@ pub fn pingvratha_pay(
     };
     match refusal::of_payment(state, memory, clock, payment) {
         Err(refusal) => Done::refused(refusal, state),
-        Ok(()) => Done {
+        Ok(now) => Done {
             number: 0,
-            state: accounts::pay::pay(state, memory, clock, payment, *randoms),
+            state: accounts::pay::pay(state, memory, now, payment, *randoms),
         },
     }
 }
@@ -165,9 +165,9 @@ pub fn pingvratha_purge(
 {
     match refusal::of_table(state.last, clock, memory.len()) {
         Err(refusal) => Done::refused(refusal, state),
-        Ok(()) => Done {
+        Ok(now) => Done {
             number: 0,
-            state: upkeep::purge::purge(state, memory, clock, *randoms),
+            state: upkeep::purge::purge(state, memory, now, *randoms),
         },
     }
 }

@@ -1,6 +1,5 @@
 // Calls that sum, show or save: they change nothing.
-ghost use Rattle.std.specs.Prelude.{◌≡◌, ◌+◌, ◌≤◌, take, drop};
-ghost use Rattle.model.specs.Figures.{last_reading};
+ghost use Rattle.std.specs.Prelude.{◌≡◌, ◌+◌, take, drop};
 ghost use Rattle.model.specs.Invariant.{Midway};
 ghost use Rattle.node.specs.View.{state_of, Rep};
 ghost use Rattle.ledger.specs.declared.answers.Extent.{Extent};
@@ -12,17 +11,19 @@ use crate::refusal;
 use accounts::totals::{Whose, tally};
 use model::figures::TABLE_BYTES;
 use model::numbers::Refusal;
+use model::reading::Reading;
 use node::State;
 use reach::list::marked_nodes;
 use reach::reach;
 use table::{find, meta_at, start_of};
 
 // What is summed over the reachable nodes.
-fn summed(state: State, memory: &[u8], clock: u64, whose: Whose) -> Summed
-    requires { Rep state memory.now × (Midway clock (state_of state memory.now) × (clock ≤ last_reading)) }
+fn summed(state: State, memory: &[u8], clock: Reading, whose: Whose) -> Summed
+    requires { Rep state memory.now × Midway clock (state_of state memory.now) }
     ensures { Summing whose clock (state_of state memory.now) result }
 {
-    let found = reach(state.table, memory, state.own, clock);
+    let now = clock.milliseconds();
+    let found = reach(state.table, memory, state.own, now);
     let t = tally(state.table, memory, found.marks, whose);
     Summed {
         number: 0,
@@ -38,7 +39,7 @@ pub fn pingvratha_total(state: State, memory: &[u8], clock: u64, household: u32)
 {
     match refusal::of_household(state.last, clock, memory.len(), household) {
         Err(refusal) => Summed::refused(refusal),
-        Ok(()) => summed(state, memory, clock, Whose::Of(household)),
+        Ok(now) => summed(state, memory, now, Whose::Of(household)),
     }
 }
 
@@ -49,7 +50,7 @@ pub fn pingvratha_sum(state: State, memory: &[u8], clock: u64) -> Summed
 {
     match refusal::of_table(state.last, clock, memory.len()) {
         Err(refusal) => Summed::refused(refusal),
-        Ok(()) => summed(state, memory, clock, Whose::All),
+        Ok(now) => summed(state, memory, now, Whose::All),
     }
 }
 
@@ -82,8 +83,8 @@ pub fn pingvratha_save(state: State, memory: &[u8], snapshot: &mut [u8], clock: 
 {
     match refusal::of_save(state.last, clock, memory.len(), snapshot.len()) {
         Err(refusal) => Saved::refused(refusal),
-        Ok(()) => {
-            let length = snapshot::save::save(state.table, memory, state.own, clock, snapshot);
+        Ok(now) => {
+            let length = snapshot::save::save(state.table, memory, state.own, now, snapshot);
             Saved { number: 0, length }
         }
     }

@@ -1,6 +1,8 @@
 // The number of one of our endpoints.
-ghost use Rattle.std.specs.Prelude.{ℕ, ◌≡◌, ◌+◌, ◌≤◌, ◌<◌, IfOk, IsErrOf, ◌↔◌};
+ghost use Rattle.std.specs.Prelude.{ℕ, ◌≡◌, [], ◌∷◌, ◌+◌, ◌≤◌, ◌<◌, IfOk};
 ghost use Rattle.model.specs.Figures.{most_endpoints};
+ghost use Rattle.model.specs.Numbers.{number_of};
+ghost use Rattle.model.specs.Refusals.{first_of, no_such_endpoint};
 
 use crate::figures::MOST_ENDPOINTS;
 use crate::numbers::Refusal;
@@ -28,7 +30,7 @@ impl EndpointNumber {
     // The number that a host names, if we have such an endpoint.
     pub fn of(number: u32) -> Result<EndpointNumber, Refusal>
         ensures accepted { IfOk result (λ e. e ≡ number) }
-        ensures refused { IsErrOf result Refusal.NoSuchEndpoint ↔ ((1 ≤ number) × (number ≤ most_endpoints) → ⊥) }
+        ensures refused { number_of result ≡ first_of (no_such_endpoint number ∷ []) }
     {
         if !(1..=LAST).contains(&number) {
             return Err(Refusal::NoSuchEndpoint);

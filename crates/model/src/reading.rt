@@ -1,6 +1,8 @@
 // A reading of the clock that a call may be made at.
-ghost use Rattle.std.specs.Prelude.{ℕ, ◌≡◌, ◌≤◌, IfOk, IsErrOf, ◌<◌, ◌↔◌};
+ghost use Rattle.std.specs.Prelude.{ℕ, ◌≡◌, [], ◌∷◌, ◌≤◌, IfOk};
 ghost use Rattle.model.specs.Figures.{last_reading};
+ghost use Rattle.model.specs.Numbers.{number_of};
+ghost use Rattle.model.specs.Refusals.{first_of, late};
 
 use crate::figures::LAST_READING;
 use crate::numbers::Refusal;
@@ -26,7 +28,7 @@ impl Reading {
     // The reading of a host's clock, if it is not too high.
     pub fn of(clock: u64) -> Result<Reading, Refusal>
         ensures accepted { IfOk result (λ r. r ≡ clock) }
-        ensures refused { IsErrOf result Refusal.ClockTooHigh ↔ (last_reading < clock) }
+        ensures refused { number_of result ≡ first_of (late clock ∷ []) }
     {
         if LAST_READING < clock {
             return Err(Refusal::ClockTooHigh);
@@ -34,6 +36,13 @@ impl Reading {
         Ok(Reading {
             milliseconds: clock,
         })
+    }
+
+    // The reading 0: none is before it.
+    pub fn zero() -> Reading
+        ensures { result ≡ 0 }
+    {
+        Reading { milliseconds: 0 }
     }
 
     pub fn milliseconds(self) -> u64

@@ -1,6 +1,6 @@
 // Beginning: our node alone.
 ghost use Rattle.std.specs.Prelude.{◌≡◌, List, [], ℕ, ◌≤◌, length};
-ghost use Rattle.model.specs.Figures.{most_endpoints, table_bytes, last_reading};
+ghost use Rattle.model.specs.Figures.{most_endpoints, table_bytes};
 ghost use Rattle.model.specs.Begin.{fresh_endpoint, fresh_endpoints, begun};
 ghost use Rattle.table.specs.View.{view, Kept};
 ghost use Rattle.reach.specs.Marks.{Readable};
@@ -8,6 +8,7 @@ ghost use Rattle.node.specs.View.{endpoint_of, endpoints_of, peers_of, state_of,
 ghost use Rattle.start.specs.Started.{undigested, digested};
 
 use model::figures::{LEAST_INTERVAL, MOST_ENDPOINTS, MOST_PEERS, USUAL_INTERVAL};
+use model::reading::Reading;
 use node::endpoints::quiet_from;
 use node::peers::{Peer, Peers};
 use node::{Endpoint, State};
@@ -16,12 +17,12 @@ use table::Table;
 use trickle::Trickle;
 
 // An endpoint whose interval begins now, with nothing requested yet, as if it had sent just now.
-fn fresh_endpoint(clock: u64, random: u32) -> Endpoint
-    requires { clock ≤ last_reading }
+fn fresh_endpoint(clock: Reading, random: u32) -> Endpoint
     ensures { endpoint_of result ≡ fresh_endpoint clock random }
 {
+    let now = clock.milliseconds();
     Endpoint {
-        trickle: Trickle::fresh(clock, LEAST_INTERVAL, random),
+        trickle: Trickle::fresh(now, LEAST_INTERVAL, random),
         next: 0,
         keep: USUAL_INTERVAL,
         quiet: quiet_from(clock, random),
@@ -29,8 +30,7 @@ fn fresh_endpoint(clock: u64, random: u32) -> Endpoint
 }
 
 // All four.
-pub fn fresh_endpoints(clock: u64, randoms: [u32; MOST_ENDPOINTS]) -> [Endpoint; MOST_ENDPOINTS]
-    requires { clock ≤ last_reading }
+pub fn fresh_endpoints(clock: Reading, randoms: [u32; MOST_ENDPOINTS]) -> [Endpoint; MOST_ENDPOINTS]
     ensures { (length result ≡ most_endpoints) × (endpoints_of result ≡ fresh_endpoints clock randoms) }
 {
     randoms.map(|random| fresh_endpoint(clock, random))
@@ -53,13 +53,12 @@ pub fn no_peers() -> Peers
 }
 
 // Our node with a table, its network digest not worked out yet.
-pub fn undigested(own: u32, clock: u64, randoms: [u32; MOST_ENDPOINTS], t: Table) -> State
-    requires { clock ≤ last_reading }
+pub fn undigested(own: u32, clock: Reading, randoms: [u32; MOST_ENDPOINTS], t: Table) -> State
     ensures { ((m : List ℕ) → Kept t m → Rep result m × (state_of result m ≡ undigested own clock randoms (view t m))) × (result.table ≡ t) }
 {
     State {
         own,
-        last: clock,
+        last: clock.milliseconds(),
         table: t,
         peers: no_peers(),
         endpoints: fresh_endpoints(clock, randoms),
@@ -78,11 +77,12 @@ pub fn with_digest(s: State, mem: &[u8], clock: u64) -> State
 }
 
 // Our node alone: number 0, no data, age 0.
-pub fn begin(own: u32, clock: u64, randoms: [u32; MOST_ENDPOINTS], mem: &[u8]) -> State
-    requires { (table_bytes ≤ length mem.now) × (clock ≤ last_reading) }
+pub fn begin(own: u32, clock: Reading, randoms: [u32; MOST_ENDPOINTS], mem: &[u8]) -> State
+    requires { table_bytes ≤ length mem.now }
     ensures { Moved (begun own clock randoms) mem.now result mem.now }
 {
-    let t = table::begin(own, clock, mem);
+    let now = clock.milliseconds();
+    let t = table::begin(own, now, mem);
     let s = undigested(own, clock, randoms, t);
-    with_digest(s, mem, clock)
+    with_digest(s, mem, now)
 }

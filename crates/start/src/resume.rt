@@ -1,7 +1,7 @@
 // Resuming from a snapshot.
 ghost use Rattle.std.specs.Prelude.{◌≡◌, true, ◌≤◌, length};
 ghost use Rattle.wire.specs.Order.{good};
-ghost use Rattle.model.specs.Figures.{table_bytes, data_limit, last_reading};
+ghost use Rattle.model.specs.Figures.{table_bytes, data_limit};
 ghost use Rattle.model.specs.State.{own_data};
 ghost use Rattle.node.specs.View.{state_of, Rep, Held, Published};
 ghost use Rattle.start.specs.Started.{unlinked, ResumedFrom};
@@ -9,6 +9,7 @@ ghost use Rattle.start.specs.Started.{unlinked, ResumedFrom};
 use crate::begin::{undigested, with_digest};
 use crate::links::links_in;
 use model::figures::MOST_ENDPOINTS;
+use model::reading::Reading;
 use model::sequence::advanced;
 use node::State;
 use node::publish::{own_data, own_seq, publish_cut};
@@ -28,14 +29,15 @@ fn republish(s: State, mem: &mut [u8], clock: u64) -> State
 pub fn resume(
     bytes: &[u8],
     mem: &mut [u8],
-    clock: u64,
+    clock: Reading,
     randoms: [u32; MOST_ENDPOINTS],
 ) -> Option<State>
-    requires { (table_bytes ≤ length mem.old) × (clock ≤ last_reading) }
+    requires { table_bytes ≤ length mem.old }
     ensures { ResumedFrom clock bytes.now randoms mem.old result mem.new }
 {
-    let loaded = load(bytes, mem, clock)?;
+    let now = clock.milliseconds();
+    let loaded = load(bytes, mem, now)?;
     let begun = undigested(loaded.own, clock, randoms, loaded.table);
-    let published = republish(begun, mem, clock);
-    Some(with_digest(published, mem, clock))
+    let published = republish(begun, mem, now);
+    Some(with_digest(published, mem, now))
 }

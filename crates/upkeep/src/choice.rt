@@ -3,7 +3,7 @@ ghost use Rattle.std.specs.Prelude.{◌≡◌, true, cond, [], ◌∷◌, ◌≤
 ghost use Rattle.base.specs.Lists.{join_all};
 ghost use Rattle.wire.specs.Row.{is_row, tlvs};
 ghost use Rattle.wire.specs.Order.{ascending, without};
-ghost use Rattle.model.specs.Figures.{most_endpoints, publish_limit, usual_interval, most_keep_alive, keep_alive_bytes, last_reading};
+ghost use Rattle.model.specs.Figures.{most_endpoints, publish_limit, usual_interval, most_keep_alive, keep_alive_bytes};
 ghost use Rattle.model.specs.State.{own_data};
 ghost use Rattle.model.specs.Numbers.{number_of};
 ghost use Rattle.model.specs.Refusals.{first_of};
@@ -13,8 +13,10 @@ ghost use Rattle.node.specs.View.{state_of, Rep, Published};
 ghost use Rattle.upkeep.specs.Choice.{KeepAliveStands};
 
 use message::keep_alive_tlv;
+use model::endpoint::EndpointNumber;
 use model::figures::{KEEP_ALIVE_BYTES, MOST_ENDPOINTS, PUBLISH_LIMIT, USUAL_INTERVAL};
 use model::numbers::Refusal;
+use model::reading::Reading;
 use model::sequence::advanced;
 use node::endpoints::{endpoint_at, with_endpoint};
 use node::publish::{Span, own_data, own_seq, publish_swap};
@@ -49,13 +51,14 @@ fn standing(ours: &[u8], endpoint: u32, keep: u32) -> Span
 }
 
 // How long our data come to be with the interval.
-fn length_with(s: State, mem: &[u8], clock: u64, endpoint: u32, interval: u32) -> usize
-    requires { Rep s mem.now × (Midway clock (state_of s mem.now) × ((1 ≤ endpoint) × (endpoint ≤ most_endpoints))) }
+fn length_with(s: State, mem: &[u8], clock: u64, endpoint: EndpointNumber, interval: u32) -> usize
+    requires { Rep s mem.now × Midway clock (state_of s mem.now) }
     ensures { result ≡ length (with_keep_alive endpoint interval (own_data (state_of s mem.now))) }
 {
+    let number = endpoint.number();
     let e = endpoint_at(s, endpoint);
     let ours = own_data(s, mem);
-    let old = standing(ours, endpoint, e.keep);
+    let old = standing(ours, number, e.keep);
     ours.len() - old.size + size_of(interval)
 }
 
@@ -64,10 +67,10 @@ pub fn refusal(
     s: State,
     mem: &[u8],
     clock: u64,
-    endpoint: u32,
+    endpoint: EndpointNumber,
     interval: u32,
 ) -> Result<(), Refusal>
-    requires { Rep s mem.now × (Midway clock (state_of s mem.now) × ((1 ≤ endpoint) × (endpoint ≤ most_endpoints))) }
+    requires { Rep s mem.now × Midway clock (state_of s mem.now) }
     ensures { number_of result ≡ first_of (no_room endpoint interval (state_of s mem.now) ∷ []) }
 {
     if PUBLISH_LIMIT < length_with(s, mem, clock, endpoint, interval) {
@@ -77,17 +80,25 @@ pub fn refusal(
 }
 
 // The interval, and our data with it published, if it is another.
-fn with_choice(s: State, mem: &mut [u8], clock: u64, endpoint: u32, interval: u32) -> State
-    requires { Rep s mem.old × (Midway clock (state_of s mem.old) × ((1 ≤ endpoint) × ((endpoint ≤ most_endpoints) × (length (with_keep_alive endpoint interval (own_data (state_of s mem.old))) ≤ publish_limit)))) }
-    ensures { Published (with_choice clock endpoint interval (state_of s mem.old)) s mem.old result mem.new }
+fn with_choice(
+    s: State,
+    mem: &mut [u8],
+    clock: u64,
+    endpoint: EndpointNumber,
+    interval: u32,
+) -> State
+    requires { Rep s mem.old × (Midway clock (state_of s mem.old) × (length (with_keep_alive endpoint interval (own_data (state_of s mem.old))) ≤ publish_limit)) }
+    ensures published { Published (with_choice clock endpoint interval (state_of s mem.old)) s mem.old result mem.new }
+    ensures within { (1 ≤ endpoint) × (endpoint ≤ most_endpoints) }
 {
+    let number = endpoint.number();
     let e = endpoint_at(s, endpoint);
     if e.keep == interval {
         return s;
     }
-    let old = standing(own_data(s, mem), endpoint, e.keep);
+    let old = standing(own_data(s, mem), number, e.keep);
     let seq = advanced(own_seq(s, mem), 1);
-    let tlv = keep_alive_tlv(endpoint, interval);
+    let tlv = keep_alive_tlv(number, interval);
     let n = size_of(interval);
     let r = publish_swap(s, mem, clock, seq, old.start, old.size, &tlv[..n]);
     let f = Endpoint {
@@ -101,15 +112,16 @@ fn with_choice(s: State, mem: &mut [u8], clock: u64, endpoint: u32, interval: u3
 pub fn choose(
     s: State,
     mem: &mut [u8],
-    clock: u64,
-    endpoint: u32,
+    clock: Reading,
+    endpoint: EndpointNumber,
     interval: u32,
     randoms: [u32; MOST_ENDPOINTS],
 ) -> State
-    requires { Rep s mem.old × (Midway clock (state_of s mem.old) × ((clock ≤ last_reading) × ((1 ≤ endpoint) × ((endpoint ≤ most_endpoints) × ((1 ≤ interval) × ((interval ≤ most_keep_alive) × (length (with_keep_alive endpoint interval (own_data (state_of s mem.old))) ≤ publish_limit))))))) }
+    requires { Rep s mem.old × (Midway clock (state_of s mem.old) × ((1 ≤ interval) × ((interval ≤ most_keep_alive) × (length (with_keep_alive endpoint interval (own_data (state_of s mem.old))) ≤ publish_limit)))) }
     ensures { Published (chosen clock endpoint interval randoms (state_of s mem.old)) s mem.old result mem.new }
 {
-    let a = with_choice(s, mem, clock, endpoint, interval);
-    let found = reach(a.table, mem, a.own, clock);
-    settle(a, clock, randoms, found)
+    let now = clock.milliseconds();
+    let a = with_choice(s, mem, now, endpoint, interval);
+    let found = reach(a.table, mem, a.own, now);
+    settle(a, now, randoms, found)
 }

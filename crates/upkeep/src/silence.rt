@@ -3,7 +3,7 @@ ghost use Rattle.std.specs.Prelude.{◌≡◌, true, ◌||◌, ◌≤◌, ◌<�
 ghost use Rattle.base.specs.Lists.{any};
 ghost use Rattle.wire.specs.Row.{is_row, tlvs};
 ghost use Rattle.wire.specs.Answers.{tlv_of, Tells};
-ghost use Rattle.model.specs.Figures.{refresh_age, last_reading};
+ghost use Rattle.model.specs.Figures.{refresh_age};
 ghost use Rattle.model.specs.Table.{age_at};
 ghost use Rattle.model.specs.State.{own_entry};
 ghost use Rattle.model.specs.Tick.{is_keep_alive, interval_for, interval_in, interval_of, silent_for, goes, drop_silent};
@@ -14,6 +14,7 @@ ghost use Rattle.upkeep.specs.Ticked.{Lent, Scanned};
 
 use base::big_endian::read_u32;
 use model::figures::{MOST_PEERS, REFRESH_AGE, USUAL_INTERVAL};
+use model::reading::Reading;
 use node::State;
 use node::leaving::drop_peers;
 use node::peers::Peer;
@@ -96,32 +97,33 @@ fn scan(peers: &[Peer], t: Table, mem: &[u8], clock: u64, endpoint: u32) -> [boo
 }
 
 // Our own age is at the limit at which we publish again.
-fn is_stale(s: State, mem: &[u8], clock: u64) -> bool
-    requires { Rep s mem.now × (Midway clock (state_of s mem.now) × (clock ≤ last_reading)) }
+fn is_stale(s: State, mem: &[u8], clock: Reading) -> bool
+    requires { Rep s mem.now × Midway clock (state_of s mem.now) }
     ensures { result ≡ leb refresh_age (age_at clock (own_entry (state_of s mem.now))) }
 {
     let i = own_place(s.table, mem, s.own);
     let e = meta_at(s.table, i);
-    REFRESH_AGE <= age_at(e, clock)
+    REFRESH_AGE <= age_at(e, clock.milliseconds())
 }
 
 // We republish: some peer goes, or our age asks for it.
-fn is_republishing(s: State, mem: &[u8], clock: u64, marks: [bool; MOST_PEERS]) -> bool
-    requires { Rep s mem.now × (Midway clock (state_of s mem.now) × (clock ≤ last_reading)) }
+fn is_republishing(s: State, mem: &[u8], clock: Reading, marks: [bool; MOST_PEERS]) -> bool
+    requires { Rep s mem.now × Midway clock (state_of s mem.now) }
     ensures { result ≡ any (λ b. b) marks || leb refresh_age (age_at clock (own_entry (state_of s mem.now))) }
 {
     marks.iter().any(|m| *m) || is_stale(s, mem, clock)
 }
 
 // Silent peers of the endpoint go with their Peer TLVs; published once if any went, or if our age asks for it.
-pub fn drop_silent(s: State, mem: &mut [u8], clock: u64, endpoint: u32) -> State
-    requires { Rep s mem.old × (Midway clock (state_of s mem.old) × (clock ≤ last_reading)) }
+pub fn drop_silent(s: State, mem: &mut [u8], clock: Reading, endpoint: u32) -> State
+    requires { Rep s mem.old × Midway clock (state_of s mem.old) }
     ensures { Published (drop_silent clock endpoint (state_of s mem.old)) s mem.old result mem.new }
 {
+    let now = clock.milliseconds();
     let peers = &s.peers.list[..s.peers.count];
-    let marks = scan(peers, s.table, mem, clock, endpoint);
+    let marks = scan(peers, s.table, mem, now, endpoint);
     if !is_republishing(s, mem, clock, marks) {
         return s;
     }
-    drop_peers(s, mem, clock, marks)
+    drop_peers(s, mem, now, marks)
 }

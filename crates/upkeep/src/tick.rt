@@ -1,7 +1,7 @@
 // A tick that is not refused.
 ghost use Rattle.std.specs.Prelude.{◌≡◌, ◌≤◌, length, ◌++◌};
 ghost use Rattle.base.specs.Memory.{written};
-ghost use Rattle.model.specs.Figures.{most_endpoints, most_bytes, last_reading};
+ghost use Rattle.model.specs.Figures.{most_bytes};
 ghost use Rattle.model.specs.Messages.{endpoint_tlv, network_tlv};
 ghost use Rattle.model.specs.Tick.{endpoint_event, after_event};
 ghost use Rattle.model.specs.Invariant.{EndpointFits, Midway};
@@ -12,7 +12,9 @@ ghost use Rattle.upkeep.specs.Ticked.{Cleared, TickedFrom};
 use crate::silence::drop_silent;
 use base::memory::store;
 use message::{network_tlv, put_endpoint};
+use model::endpoint::EndpointNumber;
 use model::figures::MOST_ENDPOINTS;
+use model::reading::Reading;
 use node::answers::Sent;
 use node::endpoints::{endpoint_at, quiet_from, with_endpoint};
 use node::settle::settle;
@@ -33,27 +35,29 @@ fn announce(room: &mut [u8], own: u32, endpoint: u32, digest: [u8; 16])
 fn cleared(
     s: State,
     mem: &mut [u8],
-    clock: u64,
+    clock: Reading,
     endpoint: u32,
     randoms: [u32; MOST_ENDPOINTS],
 ) -> State
-    requires { Rep s mem.old × (Midway clock (state_of s mem.old) × (clock ≤ last_reading)) }
+    requires { Rep s mem.old × Midway clock (state_of s mem.old) }
     ensures { Cleared clock endpoint randoms s mem.old result mem.new }
 {
+    let now = clock.milliseconds();
     let a = drop_silent(s, mem, clock, endpoint);
-    let found = reach(a.table, mem, a.own, clock);
-    settle(a, clock, randoms, found)
+    let found = reach(a.table, mem, a.own, now);
+    settle(a, now, randoms, found)
 }
 
 // The endpoint's event: Trickle's, or where neither of its two is due and the endpoint has sent nothing for its interval and delay, a keep-alive.
-fn event_of(e: Endpoint, clock: u64, random: u32) -> Event
-    requires { EndpointFits clock (endpoint_of e) × (clock ≤ last_reading) }
+fn event_of(e: Endpoint, clock: Reading, random: u32) -> Event
+    requires { EndpointFits clock (endpoint_of e) }
     ensures { event_of result ≡ endpoint_event clock random (endpoint_of e) }
 {
+    let now = clock.milliseconds();
     let t = e.trickle;
-    if !t.is_idle(clock) {
-        t.tick(clock, random)
-    } else if clock < e.quiet + u64::from(e.keep) {
+    if !t.is_idle(now) {
+        t.tick(now, random)
+    } else if now < e.quiet + u64::from(e.keep) {
         Event {
             sends: false,
             next: t,
@@ -61,14 +65,13 @@ fn event_of(e: Endpoint, clock: u64, random: u32) -> Event
     } else {
         Event {
             sends: true,
-            next: Trickle::fresh(clock, t.interval, random),
+            next: Trickle::fresh(now, t.interval, random),
         }
     }
 }
 
 // The endpoint after it: what is sent fixes the next delay.
-fn after_event(e: Endpoint, v: Event, clock: u64, random: u32) -> Endpoint
-    requires { clock ≤ last_reading }
+fn after_event(e: Endpoint, v: Event, clock: Reading, random: u32) -> Endpoint
     ensures { endpoint_of result ≡ after_event clock random (event_of v) (endpoint_of e) }
 {
     let quiet = if v.sends {
@@ -88,16 +91,17 @@ pub fn tick(
     s: State,
     mem: &mut [u8],
     room: &mut [u8],
-    clock: u64,
-    endpoint: u32,
+    clock: Reading,
+    endpoint: EndpointNumber,
     randoms: [u32; MOST_ENDPOINTS],
 ) -> Sent
-    requires { Rep s mem.old × (Midway clock (state_of s mem.old) × ((clock ≤ last_reading) × ((1 ≤ endpoint) × ((endpoint ≤ most_endpoints) × (most_bytes ≤ length room.old))))) }
+    requires { Rep s mem.old × (Midway clock (state_of s mem.old) × (most_bytes ≤ length room.old)) }
     ensures { TickedFrom s mem.old room.old clock endpoint randoms result mem.new room.new }
 {
-    let b = cleared(s, mem, clock, endpoint, randoms);
+    let number = endpoint.number();
+    let b = cleared(s, mem, clock, number, randoms);
     let e = endpoint_at(b, endpoint);
-    let random = randoms[(endpoint - 1) as usize];
+    let random = randoms[endpoint.place()];
     let v = event_of(e, clock, random);
     let r = with_endpoint(b, endpoint, after_event(e, v, clock, random));
     if !v.sends {
@@ -108,7 +112,7 @@ pub fn tick(
         };
     }
     let digest = r.digest;
-    announce(room, r.own, endpoint, digest);
+    announce(room, r.own, number, digest);
     Sent {
         number: 0,
         state: r,

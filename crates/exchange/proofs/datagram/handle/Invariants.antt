@@ -12,7 +12,7 @@ use Rattle.exchange.proofs.datagram.handle.Given as goal
 
 abbrev pub invariant-loop-h : goal.invariant-loop-h
 invariant-loop-h l =
-    let c : Context = call_in l.s l.datagram l.clock l.endpoint l.unicast l.randoms in
+    let c : Context = call_in l.s l.datagram l.now l.number l.unicast l.randoms in
     record {
       row : l.h-iterator.row.now ≡ l.datagram;
       through : Through c l.datagram (gather c l.s l.initial.t l.initial.p l.initial.d) l.initial.mem l.initial.room l.h-iterator.at (gather c l.s l.t l.p l.d) l.mem l.room;

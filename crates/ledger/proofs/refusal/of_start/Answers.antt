@@ -4,5 +4,5 @@ use Prim.Native.Nat.{zero-le}
 use borrow.Author.Tests.{le-ltb}
 use Rattle.ledger.proofs.refusal.of_start.Goals as goal
 
-pub returns : goal.returns
-returns c = rw (le-ltb c.args.clock 0 zero-le) at (c.of_table.ensures (record { own = 0; last = 0; table = []; peers = []; endpoints = []; digest = [] }) refl)
+pub returns-clause-number : goal.returns-clause-number
+returns-clause-number c = rw (le-ltb c.args.clock 0 zero-le) at (c.of_table.ensures.number (record { own = 0; last = 0; table = []; peers = []; endpoints = []; digest = [] }) refl)

@@ -4,14 +4,15 @@ use Rattle.start.proofs.resume.resume.Goals as goal
 
 pub republish-published-requires : goal.republish-published-requires
 republish-published-requires c =
-    resume_ready c.args.clock c.args.bytes.now c.args.randoms c.args.mem.now c.in_ok-loaded.loaded c.load.new.mem c.in_ok-loaded.ensures c.undigested-begun.result c.undigested-begun.ensures
+    resume_ready c.args.clock c.args.bytes.now c.args.randoms c.args.mem.now c.in_ok-loaded.loaded c.load.new.mem (rw c.milliseconds-now.ensures.same at c.in_ok-loaded.ensures) c.undigested-begun.result c.undigested-begun.ensures
 
 pub with_digest-requires : goal.with_digest-requires
 with_digest-requires c =
-    resume-readable c.args.clock c.args.bytes.now c.args.randoms c.args.mem.now c.in_ok-loaded.loaded c.load.new.mem c.in_ok-loaded.ensures c.undigested-begun.result c.undigested-begun.ensures
-    c.requires.1 c.well_formed.1.1.1.0.1.0.1 c.republish-published.result c.republish-published.new.mem c.republish-published.ensures
+    rw c.milliseconds-now.ensures.same
+    (resume-readable c.args.clock c.args.bytes.now c.args.randoms c.args.mem.now c.in_ok-loaded.loaded c.load.new.mem (rw c.milliseconds-now.ensures.same at c.in_ok-loaded.ensures) c.undigested-begun.result c.undigested-begun.ensures
+    (rw c.milliseconds-now.ensures.same at c.milliseconds-now.ensures.within) c.well_formed.1.1.1.0.1.0.1 c.republish-published.result c.republish-published.new.mem (rw c.milliseconds-now.ensures.same at c.republish-published.ensures))
 
 pub returns : goal.returns
 returns c =
-    resume_done c.args.clock c.args.bytes.now c.args.randoms c.args.mem.now c.in_ok-loaded.loaded c.load.new.mem c.in_ok-loaded.ensures c.undigested-begun.result c.undigested-begun.ensures
-    c.requires.1 c.well_formed.1.1.1.0.1.0.1 c.republish-published.result c.republish-published.new.mem c.republish-published.ensures c.with_digest.result c.with_digest.ensures
+    resume_done c.args.clock c.args.bytes.now c.args.randoms c.args.mem.now c.in_ok-loaded.loaded c.load.new.mem (rw c.milliseconds-now.ensures.same at c.in_ok-loaded.ensures) c.undigested-begun.result c.undigested-begun.ensures
+    (rw c.milliseconds-now.ensures.same at c.milliseconds-now.ensures.within) c.well_formed.1.1.1.0.1.0.1 c.republish-published.result c.republish-published.new.mem (rw c.milliseconds-now.ensures.same at c.republish-published.ensures) c.with_digest.result (rw c.milliseconds-now.ensures.same at c.with_digest.ensures)

@@ -4,12 +4,15 @@ use Rattle.upkeep.proofs.purge.purge.Goals as goal
 
 pub reach-found-requires : goal.reach-found-requires
 reach-found-requires c =
-    midway-readable c.args.clock c.args.s c.args.mem.now c.requires.1.0 c.requires.0 c.requires.1.1
+    let e = c.milliseconds-now.ensures.same in
+    rw e (midway-readable c.args.clock c.args.s c.args.mem.now c.requires.1 c.requires.0 (rw e at c.milliseconds-now.ensures.within))
 
 pub reach-again-requires : goal.reach-again-requires
 reach-again-requires c =
-    purged-readable c.args.clock c.args.s c.args.mem.now c.requires.0 c.reach-found.result c.reach-found.ensures c.purge.result c.purge.ensures c.requires.1.0 c.requires.1.1
+    let e = c.milliseconds-now.ensures.same in
+    rw e (purged-readable c.args.clock c.args.s c.args.mem.now c.requires.0 c.reach-found.result (rw e at c.reach-found.ensures) c.purge.result c.purge.ensures c.requires.1 (rw e at c.milliseconds-now.ensures.within))
 
 pub returns : goal.returns
 returns c =
-    purged_settled c.args.clock c.args.s c.args.mem.now c.requires.0 c.reach-found.result c.reach-found.ensures c.purge.result c.purge.ensures c.args.randoms c.reach-again.result c.settle.result c.reach-again.ensures c.settle.ensures
+    let e = c.milliseconds-now.ensures.same in
+    purged_settled c.args.clock c.args.s c.args.mem.now c.requires.0 c.reach-found.result (rw e at c.reach-found.ensures) c.purge.result c.purge.ensures c.args.randoms c.reach-again.result c.settle.result (rw e at c.reach-again.ensures) (rw e at c.settle.ensures)

@@ -7,13 +7,16 @@ use Rattle.upkeep.proofs.tick.event_of.Goals as goal
 
 pub returns-then-not-is_idle : goal.returns-then-not-is_idle
 returns-then-not-is_idle c =
-    c.tick.ensures ∙ sym (event_busy c.args.clock c.args.random (endpoint_of c.args.e) (sym c.is_idle.ensures ∙ c.if-not-is_idle.true))
+    let e = c.milliseconds-now.ensures.same in
+    (rw e at c.tick.ensures) ∙ sym (event_busy c.args.clock c.args.random (endpoint_of c.args.e) (sym (rw e at c.is_idle.ensures) ∙ c.if-not-is_idle.true))
 
-pub returns-then-clock-e : goal.returns-then-clock-e
-returns-then-clock-e c =
-    sym (event_rests c.args.clock c.args.random (endpoint_of c.args.e) (sym c.is_idle.ensures ∙ c.if-not-is_idle.false) (rw c.from.ensures at c.if-clock-e.true))
+pub returns-then-now-e : goal.returns-then-now-e
+returns-then-now-e c =
+    let e = c.milliseconds-now.ensures.same in
+    sym (event_rests c.args.clock c.args.random (endpoint_of c.args.e) (sym (rw e at c.is_idle.ensures) ∙ c.if-not-is_idle.false) (rw (e, c.from.ensures) at c.if-now-e.true))
 
-pub returns-else-clock-e : goal.returns-else-clock-e
-returns-else-clock-e c =
-    ap (λ (t : ModelTrickle). record { sends = true; next = t }) c.fresh.ensures
-    ∙ sym (event-alive c.args.clock c.args.random (endpoint_of c.args.e) (sym c.is_idle.ensures ∙ c.if-not-is_idle.false) (rw c.from.ensures at c.if-clock-e.false))
+pub returns-else-now-e : goal.returns-else-now-e
+returns-else-now-e c =
+    let e = c.milliseconds-now.ensures.same in
+    ap (λ (t : ModelTrickle). record { sends = true; next = t }) (rw e at c.fresh.ensures)
+    ∙ sym (event-alive c.args.clock c.args.random (endpoint_of c.args.e) (sym (rw e at c.is_idle.ensures) ∙ c.if-not-is_idle.false) (rw (e, c.from.ensures) at c.if-now-e.false))
