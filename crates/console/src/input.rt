@@ -1,6 +1,7 @@
 // Standard input, line by line, through a window on it.
 ghost use Rattle.std.specs.Prelude.{◌≡◌, ◌+◌, ◌<◌, ◌≤◌, length, None, OnOk, IfSome};
 
+use crate::ended;
 use std::io::{Error, Read, Result, Stdin};
 use std::ops::Range;
 
@@ -24,10 +25,7 @@ impl StandardInput {
         ensures { OnOk result (self.failure ≡ None) }
     {
         let StandardInput { from: _, failure } = self;
-        match failure {
-            Some(e) => Err(e),
-            None => Ok(()),
-        }
+        ended(failure)
     }
 
     // Reads once, and answers how many bytes stand at the front now: none at the end of the input.
@@ -78,7 +76,7 @@ impl Lines {
     pub fn new(input: StandardInput) -> Lines {
         Lines {
             input,
-            window: window_buffer(),
+            window: filled(0),
             from: 0,
             end: 0,
         }
@@ -138,16 +136,9 @@ impl Lines {
     }
 }
 
-// 131,072 zeros: room for long lines.
-pub fn window_buffer() -> [u8; 131072]
-    ensures { 131072 ≡ length result }
+// An array of one value: room for what is read, or is lent to a call. That it is long stays out of its callers' proofs.
+pub fn filled<T: Copy, const N: usize>(value: T) -> [T; N]
+    ensures { N ≡ length result }
 {
-    [0; 131072]
-}
-
-// 65,536 zeros: room for what a call is lent.
-pub fn large_buffer() -> [u8; 65536]
-    ensures { 65536 ≡ length result }
-{
-    [0; 65536]
+    [value; N]
 }

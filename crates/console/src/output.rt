@@ -1,6 +1,7 @@
 // What a line prints, by std's formats.
 ghost use Rattle.std.specs.Prelude.{◌≡◌, ◌≤◌, length, None, OnOk};
 
+use crate::ended;
 use std::fmt;
 use std::io::{Error, Result, Stdout, Write};
 use text::hexadecimal::put_hex;
@@ -23,10 +24,7 @@ impl StandardOutput {
         ensures { OnOk result (self.failure ≡ None) }
     {
         let StandardOutput { to: _, failure } = self;
-        match failure {
-            Some(e) => Err(e),
-            None => Ok(()),
-        }
+        ended(failure)
     }
 
     // Whether a write has failed.

@@ -12,8 +12,9 @@ pub fn received(out: &mut StandardOutput, number: u32, omitted: u32, dropped: u3
 }
 
 // A total or a sum.
-pub fn summed(out: &mut StandardOutput, label: &str, number: u32, value: i64, unread: u32) {
-    writeln!(out, "{label} {number} {value} {unread}");
+pub fn summed(out: &mut StandardOutput, label: &[u8], number: u32, value: i64, unread: u32) {
+    out.write(label);
+    writeln!(out, "{number} {value} {unread}");
 }
 
 // How many nodes are reachable, the last level, the network digest, and their identifiers.

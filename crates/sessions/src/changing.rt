@@ -4,7 +4,7 @@ ghost use Rattle.ledger.specs.Promises.{AsLeft};
 ghost use Rattle.sessions.specs.Kept.{Goes};
 
 use crate::command::Change;
-use console::input::large_buffer;
+use console::input::filled;
 use console::output::StandardOutput;
 use ledger::change;
 use listing::answers::{received, with_bytes};
@@ -59,7 +59,7 @@ fn receive(
     requires { AsLeft s mem.old × (reply ≤ 5000) }
     ensures { Goes s mem.old result mem.new }
 {
-    let mut room = large_buffer();
+    let mut room: [u8; 65536] = filled(0);
     let a = change::pingvratha_receive(
         s,
         mem,
@@ -87,7 +87,7 @@ fn tick(
     requires { AsLeft s mem.old × (reply ≤ 5000) }
     ensures { Goes s mem.old result mem.new }
 {
-    let mut room = large_buffer();
+    let mut room: [u8; 65536] = filled(0);
     let a = change::pingvratha_tick(s, mem, &mut room[..reply], clock, endpoint, random);
     with_bytes(out, "tick", a.number, &room[..a.length]);
     a.state

@@ -5,7 +5,7 @@ use crate::book::totals;
 use crate::changing::change;
 use crate::command::Command;
 use crate::showing::{save, tell};
-use console::input::large_buffer;
+use console::input::filled;
 use console::output::StandardOutput;
 use ledger::blank::pingvratha_blank;
 use listing::states::state;
@@ -33,11 +33,11 @@ impl Session {
     {
         Session {
             state: pingvratha_blank(),
-            memory: large_buffer(),
+            memory: filled(0),
             table: TABLE_BYTES,
             reply: MOST_BYTES,
             snapshot: SNAPSHOT_BYTES,
-            saved: large_buffer(),
+            saved: filled(0),
             kept: 0,
         }
     }
@@ -96,7 +96,7 @@ impl Session {
         requires { Running self.old }
         ensures { Running self.new }
     {
-        let mut room = large_buffer();
+        let mut room: [u8; 65536] = filled(0);
         let a = save(
             out,
             self.state,

@@ -14,7 +14,7 @@ fn total(out: &mut StandardOutput, s: State, mem: &[u8], clock: u64, household: 
     requires { AsLeft s mem.now }
 {
     let a = look::pingvratha_total(s, mem, clock, household);
-    summed(out, "total", a.number, a.value, a.unread);
+    summed(out, b"total ", a.number, a.value, a.unread);
 }
 
 // Of all households.
@@ -22,7 +22,7 @@ fn sum(out: &mut StandardOutput, s: State, mem: &[u8], clock: u64)
     requires { AsLeft s mem.now }
 {
     let a = look::pingvratha_sum(s, mem, clock);
-    summed(out, "sum", a.number, a.value, a.unread);
+    summed(out, b"sum ", a.number, a.value, a.unread);
 }
 
 // The reachable nodes, the last level and the network digest.

@@ -1,19 +1,19 @@
 -- Bytes in hexadecimal, pair by pair. Assumes nothing.
-use mathlib.Core.Path.{◌≡◌, refl, ap, ◌∙◌}
-use mathlib.Core.List.{List, [], ◌∷◌}
+use mathlib.Core.Path.{◌≡◌, refl, sym, ap, ◌∙◌}
+use mathlib.Core.List.{List, [], ◌∷◌, ◌++◌}
 use Prim.Native.Nat.{ℕ, ◌+◌, ◌*◌, ◌/◌, ◌%◌, ◌≤◌, ◌<◌}
 use native.Mathlib.Omega.{arith}
-use lib.ListN.{length, get_or, set, take, drop, length-set, drop_of_length-le}
+use lib.ListN.{length, get_or, set, take, drop, length-set, length-drop, drop_of_length-le}
 use Rattle.base.specs.Memory.{written}
-use Rattle.base.proofs.Lists.{drop-next}
+use Rattle.base.proofs.Lists.{drop-next, drop_later}
 use Rattle.base.proofs.Written.{written_none, written_on, part-there}
 use Rattle.std.specs.Prelude.{All, ltb}
 use Rattle.std.specs.Str.{IsUtf8}
 use Rattle.std.proofs.lemmas.Str.{IsUtf8-from_ascii}
 use Rattle.std.proofs.lemmas.List.Elements.{All-nil, All-cons, All-head, All-tail, All-from_get_or}
-use Rattle.std.proofs.lemmas.List.{get_or_past}
+use Rattle.std.proofs.lemmas.List.{get_or_past, take_more_set, drop-set-lt, append_assoc, append-nil}
 use Rattle.base.proofs.Tests.{by_test, by_order}
-use Rattle.text.specs.Hexadecimal.{glyph, pairs, hexadecimal}
+use Rattle.text.specs.Hexadecimal.{glyph, pairs, hexadecimal, byte, bytes}
 
 pub pairs_length : (s : List ℕ) → length (pairs s) ≡ 2 * length s
 unfolding pairs
@@ -88,3 +88,41 @@ hexadecimal_is_text s room room' k w e l h =
     let at : (i : ℕ) → get_or x i 0 < 128 =
     λ i. by_order i (length x) (λ l. a i 0 l) (λ q. past i (omega arith)) (λ l. past i (omega arith)) in
     rw there (IsUtf8-from_ascii x at)
+
+-- ---- read
+
+bytes_two : (a b : ℕ) (s : List ℕ) → bytes (a ∷ b ∷ s) ≡ byte a b ∷ bytes s
+unfolding bytes
+bytes_two a b s = refl
+
+bytes_few : (s : List ℕ) → length s ≤ 1 → bytes s ≡ []
+unfolding bytes
+bytes_few [] h = refl
+bytes_few (a ∷ []) h = refl
+bytes_few (a ∷ b ∷ s) h = absurd (omega arith)
+
+-- s was to be read, and its first i bytes stand at the front of w, which is still s from the next digits on
+module _ (s w : List ℕ) (i : ℕ) (l : length w ≡ length s) (same : drop (2 * i) w ≡ drop (2 * i) s) (e : take i w ++ bytes (drop (2 * i) s) ≡ bytes s) where
+  pub bytes-read : length s ≤ 2 * i + 1 → take i w ≡ bytes s
+  bytes-read h =
+      let none : bytes (drop (2 * i) s) ≡ [] = bytes_few (drop (2 * i) s) (omega (arith, length-drop (2 * i) s)) in
+      sym (append-nil (take i w)) ∙ rw (← none) e
+
+  module _ (h : 2 * i + 1 < length s) (x : ℕ) (is : x ≡ byte (get_or w (2 * i) 0) (get_or w (2 * i + 1) 0)) where
+    digits_left : drop (2 * (i + 1)) w ≡ drop (2 * (i + 1)) s
+    digits_left = drop_later s w (2 * i) (2 * (i + 1)) (omega arith) same
+
+    pub bytes_left : drop (2 * (i + 1)) (set w i x) ≡ drop (2 * (i + 1)) s
+    bytes_left = drop-set-lt (2 * (i + 1)) w i x (omega arith) ∙ digits_left
+
+    pub bytes_more : take (i + 1) (set w i x) ++ bytes (drop (2 * (i + 1)) s) ≡ bytes s
+    bytes_more =
+        let two : 2 * i + 1 + 1 ≡ 2 * (i + 1) = omega arith in
+        let t : List ℕ = bytes (drop (2 * (i + 1)) s) in
+        let one : bytes (drop (2 * i) s) ≡ x ∷ t =
+        ap bytes (sym same)
+        ∙ ap bytes (drop-next w (2 * i) (omega arith))
+        ∙ ap (λ (d : List ℕ). bytes (get_or w (2 * i) 0 ∷ d)) (drop-next w (2 * i + 1) (omega arith))
+        ∙ bytes_two (get_or w (2 * i) 0) (get_or w (2 * i + 1) 0) (drop (2 * i + 1 + 1) w)
+        ∙ rw (two, digits_left, is) in
+        rw (take_more_set w i x (omega arith)) (append_assoc (take i w) (x ∷ []) t ∙ rw (← one) e)

@@ -2,3 +2,4 @@ pub mod Decimal
 pub mod Hexadecimal
 pub mod Reading
 pub mod Room
+pub mod Words

@@ -1,12 +1,14 @@
 // Bytes in lower-case hexadecimal, `-` for none.
-ghost use Rattle.std.specs.Prelude.{◌≡◌, ◌+◌, ◌≤◌, ◌<◌, length, IfSome};
+ghost use Rattle.std.specs.Prelude.{◌≡◌, ◌+◌, ◌≤◌, ◌<◌, length, take, IfSome, is_some};
+ghost use Rattle.std.specs.List.{list_all};
 ghost use Rattle.text.specs.Hexadecimal.{pairs, hexadecimal};
-ghost use Rattle.text.specs.Hexadecimal.{glyph as Hexadecimal·glyph};
+ghost use Rattle.text.specs.Hexadecimal.{glyph as Hexadecimal·glyph, digit as Hexadecimal·digit, is_hex as Hexadecimal·is_hex, bytes};
 ghost use Rattle.text.specs.Room.{Put};
 
 // What a digit counts.
+#[tactic(auto, unfolding(crate::specs::Hexadecimal::digit))]
 fn digit(b: u8) -> Option<u8>
-    ensures { IfSome result (λ d. d < 16) }
+    ensures { (result ≡ Hexadecimal·digit b) × IfSome result (λ d. d < 16) }
 {
     match b {
         b'0'..=b'9' => Some(b - b'0'),
@@ -15,18 +17,24 @@ fn digit(b: u8) -> Option<u8>
     }
 }
 
+// Digits alone.
+fn are_digits(word: &[u8]) -> bool
+    ensures { result ≡ list_all (λ b. is_some (Hexadecimal·digit b)) word.now }
+{
+    word.iter().all(|b| digit(*b).is_some())
+}
+
 // The word stands for bytes.
-pub fn is_hex(word: &[u8]) -> bool {
-    match word {
-        [] => false,
-        [b'-'] => true,
-        _ => word.len() % 2 == 0 && word.iter().all(|b| digit(*b).is_some()),
-    }
+#[tactic(auto, using(base::proofs::Library::same_equal), unfolding(crate::specs::Hexadecimal::is_hex))]
+pub fn is_hex(word: &[u8]) -> bool
+    ensures { result ≡ Hexadecimal·is_hex word.now }
+{
+    word == b"-".as_slice() || !word.is_empty() && word.len() % 2 == 0 && are_digits(word)
 }
 
 // The bytes that the word stands for, put over its front; how many they are.
 pub fn decode(word: &mut [u8]) -> usize
-    ensures { result ≤ length word.old }
+    ensures { (take result word.new ≡ bytes word.old) × (result ≤ length word.old) × (length word.new ≡ length word.old) }
 {
     let n = word.len() / 2;
     for i in 0..n {
