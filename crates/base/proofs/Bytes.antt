@@ -1,11 +1,15 @@
 -- Laws of bytes and big-endian numbers. Assumes nothing.
 use mathlib.Core.Path.{◌≡◌, ◌∙◌}
+use mathlib.Core.Bool.{◌&&◌}
 use mathlib.Core.List.{List, [], ◌∷◌, ◌++◌}
-use Prim.Native.Nat.{ℕ, zero, suc, ◌+◌, ◌<◌, ◌≤◌}
+use Prim.Native.Nat.{ℕ, zero, suc, ◌+◌, ◌-◌, ◌<◌, ◌≤◌}
 use native.Mathlib.Omega.{arith}
-use lib.ListN.{get_or, take, drop}
+use lib.ListN.{length, get_or, take, drop}
 use lib.Seq.{get_or-drop, get_or-take}
-use Rattle.base.specs.Bytes.{Bytes, u16_at, u32_at}
+use lib.Dec.{eqb}
+use borrow.Author.Tests.{eq-eqb}
+use Rattle.base.specs.Bytes.{Bytes, u16_at, u32_at, zeros}
+use Rattle.base.proofs.Lists.{drop-next}
 
 -- ---- numbers at a place
 
@@ -14,6 +18,18 @@ u16_drop s a i = let e : a + (i + 1) ≡ a + i + 1 = omega arith in rw (get_or-d
 
 pub u16_take : (s : List ℕ) (n i : ℕ) → i + 2 ≤ n → u16_at (take n s) i ≡ u16_at s i
 u16_take s n i h = rw (get_or-take n s i 0 (omega arith), get_or-take n s (i + 1) 0 (omega arith))
+
+-- ---- runs of zeros
+
+pub zeros_on : (s : List ℕ) (a k : ℕ) → a < length s → 0 < k → zeros (take k (drop a s)) ≡ eqb (get_or s a 0) 0 && zeros (take (k - 1) (drop (a + 1) s))
+zeros_on s a zero h p = absurd (omega arith)
+zeros_on s a (suc k) h p =
+    let e : suc k - 1 ≡ k = omega arith in
+    rw (e, drop-next s a h)
+
+-- behind a zero
+pub zero_on : (s : List ℕ) (a k : ℕ) → a < length s → 0 < k → (b : ℕ) → b ≡ a + 1 → get_or s a 0 ≡ 0 → zeros (take k (drop a s)) ≡ zeros (take (k - 1) (drop b s))
+zero_on s a k h p b e z = zeros_on s a k h p ∙ rw (eq-eqb (get_or s a 0) 0 z, e)
 
 -- ---- bytes
 

@@ -17,6 +17,17 @@ use reply::{Context, Progress};
 use table::Table;
 use wire::kind::Kind;
 
+// The types of on_tlv's match, as the numbers that stand in a TLV.
+const REQUEST_NETWORK: u16 = Kind::RequestNetwork as u16;
+
+const REQUEST_NODE: u16 = Kind::RequestNode as u16;
+
+const NODE_ENDPOINT: u16 = Kind::NodeEndpoint as u16;
+
+const NETWORK_STATE: u16 = Kind::NetworkState as u16;
+
+const NODE_STATE: u16 = Kind::NodeState as u16;
+
 // The types that are handled, from Request Network State to Node State; a TLV of another is passed over.
 fn is_handled(kind: u16) -> bool
     ensures { result ≡ handles kind }
@@ -31,7 +42,7 @@ pub fn is_idle(unicast: bool, known: bool, kind: u16) -> bool
     !is_handled(kind) && !(unicast && known)
 }
 
-// The type decides; what is too short is passed over.
+// The type decides; what is too short is passed over. So are the types of this profile, 32 to 511: they have their meaning in node data alone.
 pub fn on_tlv(
     d: Progress,
     t: Table,
@@ -44,19 +55,15 @@ pub fn on_tlv(
     requires { Markable c t d mem.now × PeersRep p }
     ensures { Told c 33 (on_tlv (context_of c) kind value.now) value.now t p d mem.now result }
 {
-    let Ok(known) = Kind::try_from(kind) else {
-        return still(d);
-    };
-    match known {
-        Kind::RequestNetwork => on_request_network(d, t, mem, c),
-        Kind::RequestNode if value.len() >= 4 => {
-            on_request_node(d, t, mem, c, read_u32(value, 0))
-        }
-        Kind::NodeEndpoint if value.len() >= 8 => {
+    match kind {
+        REQUEST_NETWORK => on_request_network(d, t, mem, c),
+        REQUEST_NODE if value.len() >= 4 => on_request_node(d, t, mem, c, read_u32(value, 0)),
+        NODE_ENDPOINT if value.len() >= 8 => {
             on_endpoint(d, t, p, mem, c, read_u32(value, 0), read_u32(value, 4))
         }
-        Kind::NetworkState if value.len() >= 16 => on_network(d, t, mem, c, &value[..16]),
-        Kind::NodeState if value.len() >= 28 => on_state(d, t, mem, c, value),
+        NETWORK_STATE if value.len() >= 16 => on_network(d, t, mem, c, &value[..16]),
+        NODE_STATE if value.len() >= 28 => on_state(d, t, mem, c, value),
+        32..=511 => still(d),
         _ => still(d),
     }
 }

@@ -191,12 +191,12 @@ module _ (clock : ℕ) (t : List Entry) (s : length t ≤ most_nodes) (first : L
           count = omega (arith, ap length (left_stop clock t s w.level w.met next g.wide e h (most_nodes - k)), g.count);
         }
 
-  pub wave_end : (k : ℕ) (w : Wave) → Waving clock t first k w.met w.level → most_nodes ≤ k → Spread clock t first (record { marks = w.met; levels = k })
-  wave_end k w g p =
+  pub wave_end : (k : ℕ) (w : Wave) → Waving clock t first k w.met w.level → most_nodes ≤ k → (n : ℕ) → k ≡ n → Spread clock t first (record { marks = w.met; levels = n })
+  wave_end k w g p n e =
       let q : most_nodes - k ≡ 0 = omega arith in
       let c : length (levels_left clock t (most_nodes - k) w.met w.level) ≡ 0 = rw q (none_left clock t s w.met w.level) in
       record {
         wide = g.wide;
-        each = λ n. sym (g.all n ∙ ap (λ (f : ℕ). found_from clock t f w.met w.level n) q ∙ found_end clock t s w.met w.level n);
+        each = λ i. sym (g.all i ∙ ap (λ (f : ℕ). found_from clock t f w.met w.level i) q ∙ found_end clock t s w.met w.level i);
         count = omega (arith, c, g.count);
       }

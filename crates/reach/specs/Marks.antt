@@ -4,7 +4,7 @@ use Rattle.base.specs.Lists.{any, keep_by, join_all, All}
 use Rattle.model.specs.Figures.{most_nodes, table_bytes, last_reading}
 use Rattle.model.specs.Table.{Entry, id_of, under_age}
 use Rattle.wire.specs.Row.{value_of}
-use Rattle.model.specs.Reach.{Link as ModelLink, link_of, is_peer_tlv, matches, Vertex, vertices, joined, touched, is_node, levels_from, last_level, in_reach}
+use Rattle.model.specs.Reach.{Link as ModelLink, link_of, is_peer_tlv, Vertex, vertices, joined, touched, is_node, levels_from, last_level, in_reach}
 use Rattle.model.specs.Digest.{network_digest}
 use Rattle.model.specs.State.{no_entry}
 use Rattle.model.specs.Invariant.{EntryFits}
@@ -24,10 +24,6 @@ link_in l = record { peer = l.peer; peer_end = l.peerend; own_end = l.ownend }
 abbrev pub Holds : List ℕ → Option Link → Type 0
 Holds t None = is_peer_tlv t ≡ false
 Holds t (Some l) = (is_peer_tlv t ≡ true) × (link_in l ≡ link_of (value_of t))
-
--- a TLV of node n is a Peer TLV that matches l, a link of node r
-abbrev pub answers : ℕ → ℕ → ModelLink → List ℕ → Bool
-answers r n l u = is_peer_tlv u && matches r n l (link_of (value_of u))
 
 -- node r, which publishes x, and node n, which publishes y, are joined
 abbrev pub joins : ℕ → List ℕ → ℕ → List ℕ → Bool

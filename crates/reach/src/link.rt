@@ -1,10 +1,9 @@
 // Two nodes joined by mutual Peer TLVs, endpoint to endpoint.
 ghost use Rattle.std.specs.Prelude.{◌≡◌, true};
-ghost use Rattle.base.specs.Lists.{any};
-ghost use Rattle.wire.specs.Row.{is_row, tlvs};
+ghost use Rattle.wire.specs.Row.{is_row};
 ghost use Rattle.wire.specs.Answers.{tlv_of, Tells};
 ghost use Rattle.model.specs.Reach.{matches};
-ghost use Rattle.reach.specs.Marks.{link_in, joins, answers, Holds};
+ghost use Rattle.reach.specs.Marks.{link_in, joins, Holds};
 
 use base::big_endian::read_u32;
 use wire::kind::Kind;
@@ -41,28 +40,23 @@ fn is_match(r: u32, n: u32, l: Link, m: Link) -> bool
     l.peer == n && m.peer == r && l.peerend == m.ownend && l.ownend == m.peerend
 }
 
-// A link that node n publishes in y matches l, a link of node r.
-fn is_answered(r: u32, l: Link, y: &[u8], n: u32) -> bool
-    requires { is_row y.now ≡ true }
-    ensures { result ≡ any (answers r n (link_in l)) (tlvs y.now) }
-{
-    for h in tlvs(y) {
-        if link_at(y, h).is_some_and(|m| is_match(r, n, l, m)) {
-            return true;
-        }
-    }
-    false
-}
-
 // Nodes r and n, which publish x and y, are joined: the search is left at the first pair that matches.
 pub fn is_joined(x: &[u8], r: u32, y: &[u8], n: u32) -> bool
     requires { (is_row x.now ≡ true) × (is_row y.now ≡ true) }
     ensures { result ≡ joins r x.now n y.now }
 {
-    for h in tlvs(x) {
-        if link_at(x, h).is_some_and(|l| l.peer == n && is_answered(r, l, y, n)) {
-            return true;
+    let mut found = false;
+    'search: for h in tlvs(x) {
+        if let Some(l) = link_at(x, h)
+            && l.peer == n
+        {
+            for k in tlvs(y) {
+                if link_at(y, k).is_some_and(|m| is_match(r, n, l, m)) {
+                    found = true;
+                    break 'search;
+                }
+            }
         }
     }
-    false
+    found
 }

@@ -34,8 +34,9 @@ fn next_level(
     let mut next = [false; MOST_NODES];
     for r in 0..t.count {
         if level[r] {
+            let e = t.entries[r];
             for v in 0..t.count {
-                if !met[v] && is_leading(t.entries[r], t.entries[v], mem, clock) {
+                if !met[v] && is_leading(e, t.entries[v], mem, clock) {
                     next[v] = true;
                 }
             }

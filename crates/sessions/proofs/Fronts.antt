@@ -4,7 +4,7 @@ use mathlib.Core.List.{List, [], ◌∷◌, ◌++◌, map}
 use Prim.Native.Nat.{ℕ, ◌*◌, ◌≤◌, ◌<◌}
 use native.Mathlib.Omega.{arith}
 use lib.ListN.{length, take, drop, take-append-drop}
-use lib.Seq.{take-take, take-append-le, length-take-le}
+use lib.Seq.{take-take, take-append-le, take-append_seam, length-take-le}
 use lib.Dec.{ltb}
 use borrow.Author.Tests.{ltb-true, ltb-false}
 use Rattle.base.proofs.Tests.{by_test}
@@ -76,3 +76,10 @@ left-whole s r m w t h l g =
     (λ b.
     let k : table_bytes ≤ length w = rw (g.size, length-take-le t m h) (ltb-false t table_bytes b) in
     left-same r w (w ++ drop t m) (λ room. (k, sym (take-append-le table_bytes w (drop t m) k))) g.left)
+
+-- the call is then one on the front of the whole
+pub goes-front : (s r : State) (m w : List ℕ) (t : ℕ) → t ≤ length m → Goes s (take t m) r w → Goes s (take t m) r (take t (w ++ drop t m))
+goes-front s r m w t h g =
+    let k : length w ≡ t = g.size ∙ length-take-le t m h in
+    let e : take t (w ++ drop t m) ≡ w = subst (λ (n : ℕ). take n (w ++ drop t m) ≡ w) k (take-append_seam w (drop t m)) in
+    subst (λ (x : List ℕ). Goes s (take t m) r x) (sym e) g

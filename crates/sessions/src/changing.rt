@@ -1,5 +1,5 @@
 // Calls that change state: each prints its answer and returns the state after it.
-ghost use Rattle.std.specs.Prelude.{◌≡◌, ◌≤◌, length};
+ghost use Rattle.std.specs.Prelude.{◌≡◌, ◌≤◌, length, take, drop};
 ghost use Rattle.ledger.specs.Promises.{AsLeft};
 ghost use Rattle.sessions.specs.Kept.{Goes};
 
@@ -206,7 +206,10 @@ pub fn change(
     bytes: &[u8],
 ) -> State
     requires { AsLeft s memory.old × ((table ≤ length memory.old) × (reply ≤ 5000)) }
-    ensures { AsLeft result memory.new × (length memory.new ≡ length memory.old) }
+    ensures goes { Goes s (take table memory.old) result (take table memory.new) }
+    ensures behind { drop table memory.new ≡ drop table memory.old }
+    ensures left { AsLeft result memory.new }
+    ensures size { length memory.new ≡ length memory.old }
 {
     run(out, call, s, &mut memory[..table], reply, saved, bytes)
 }

@@ -15,7 +15,7 @@ use text::words::decode_last;
 
 // Calls are lent the first `table` bytes of the memory, and rooms of `reply` and `snapshot` bytes. The first `kept` bytes of `saved` are those of the last
 // accepted save. A script sets these lengths, beside memory of one size.
-#[derive(Drop)]
+#[derive(Clone, Copy)]
 pub struct Session {
     pub state: State,
     pub memory: [u8; 65536],

@@ -43,10 +43,10 @@ abbrev pub ReadEntry : List ℕ → ℕ → ℕ → Option Saved → Type 0
 ReadEntry s at low (Some e) = EntryAt s at low e
 ReadEntry s at low None = Stops s at low
 
--- the entry at the cursor, which goes on behind it
+-- the entry at the cursor, which goes on behind it; where none stands, the cursor stays
 abbrev pub Went : List ℕ → Cursor → Option Saved → Cursor → Type 0
 Went s c (Some e) c' = EntryAt s c.place c.low e × ((c'.place ≡ e.start + e.size) × (c'.low ≡ e.node + 1))
-Went s c None c' = Stops s c.place c.low
+Went s c None c' = Stops s c.place c.low × (c' ≡ c)
 
 -- edition, own identifier and count stand at the front of s; the entries start at place `next`
 pub record Heads (s : List ℕ) (h : Head) : Type 0 where

@@ -19,7 +19,7 @@ use Rattle.base.proofs.Tests.{by_test, by_order}
 use Rattle.base.proofs.Lists.{all_keep_by, in_keep_by}
 use Rattle.base.proofs.Sorted.{above_less, insert_lt, insert_eq, insert_gt, insert-ascending, find_no, find_none, find-some, by_find, one_each, ascending-map, find-map, find-inserted, find-other, all_insert}
 use Rattle.base.proofs.Places.{above_at, find_at, insert-over, insert-between, all-at, pigeons}
-use Rattle.base.proofs.Written.{part_length, part-there, spliced-length, cut-length, other-slot, written_outside, same_outside, written-above, written-there, written-length, written_self}
+use Rattle.base.proofs.Written.{part_length, part-there, spliced-length, cut-length, other-slot, written_outside, same_outside, written-above, written-there, written-length}
 use Rattle.std.specs.Prelude.{Result, Ok, Err}
 use Rattle.std.specs.List.{copy_within}
 use Rattle.std.specs.List.Sorted.{IsSearchInRange, IsBinarySearchResult, IsNonDecreasingBy}
@@ -532,20 +532,12 @@ unfolding view
 none-held m l h n =
     (record { arranged = record { most = omega arith; wide = n; ascending = tt; fit = tt; apart = tt }; room = h; hashed = tt }, refl)
 
-pub empty-count : (t : Table) (m : List ℕ) → Kept t m × (view t m ≡ []) → t.count ≡ 0
-empty-count t m k = sym (view-length t k.0.arranged m) ∙ ap length k.1
-
 -- the first entry, with no data
-pub begun : (t r : Table) (m : List ℕ) (own clock : ℕ) (hash : List ℕ) (e : Meta) → table_bytes ≤ length m → Kept t m × (view t m ≡ []) → hash ≡ hash16 [] → e ≡ entry_in (version_anew own 0 clock) 0 0 hash → r ≡ inserted t 0 e
-    → Kept r m × (view r m ≡ entry_of own 0 [] (anew clock) ∷ [])
-unfolding put insert
-begun t r m own clock hash e room k h q p =
-    let n : t.count ≡ 0 = empty-count t m k in
-    let free : Free 0 (live t) = rw n tt in
-    let s : Stored (entry_of own 0 [] (anew clock)) t m 0 r (written m 0 []) =
-    rw (p, q) (stored_new t m (entry_in (version_anew own 0 clock) 0 0 hash) [] 0 k.0 (omega arith) (record { at = omega arith; below = λ j l. absurd (omega arith); above = λ l. absurd (omega arith) }) (omega arith) free refl (omega arith) h) in
-    let w : written m 0 [] ≡ m = written_self m 0 0 (omega arith) in
-    (rw w at s.kept, rw w at s.viewed ∙ ap (put (entry_of own 0 [] (anew clock))) k.1)
+pub begun : (own clock : ℕ) (hash m : List ℕ) (e : Meta) (l : List Meta) → table_bytes ≤ length m → hash ≡ hash16 [] → e ≡ entry_in (version_anew own 0 clock) 0 0 hash → length l ≡ 31
+    → Kept (record { count = 1; entries = e ∷ l }) m × (view (record { count = 1; entries = e ∷ l }) m ≡ entry_of own 0 [] (anew clock) ∷ [])
+unfolding view
+begun own clock hash m e l r h q n =
+    rw q (record { arranged = record { most = omega arith; wide = omega arith; ascending = (tt, tt); fit = ((omega arith, omega arith), tt); apart = (tt, tt) }; room = r; hashed = (h, tt) }, refl)
 
 -- what holds of every entry of the model's table
 pub all-stored : (P : Entry → Type 0) (e : Entry) (t r : Table) (m m' : List ℕ) (i : ℕ) → Stored e t m i r m' → P e → All P (view t m) → All P (view r m')

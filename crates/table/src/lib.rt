@@ -240,8 +240,8 @@ pub fn purge(t: Table, marks: [bool; MOST_NODES]) -> Table
     let mut n = t;
     let mut j = 0;
     for (e, kept) in t.entries[..t.count].iter().zip(&marks) {
+        n.entries[j] = *e;
         if *kept {
-            n.entries[j] = *e;
             j += 1;
         }
     }
@@ -303,7 +303,9 @@ pub fn begin(own: u32, clock: u64, mem: &[u8]) -> Table
     requires { table_bytes ≤ length mem.now }
     ensures { Kept result mem.now × (view result mem.now ≡ entry_of own 0 [] (anew clock) ∷ []) }
 {
-    let t = empty();
     let e = Version::anew(own, 0, clock).entry(0, 0, hash16(&[]));
-    insert_meta(t, 0, e)
+    Table {
+        count: 1,
+        entries: [e; MOST_NODES],
+    }
 }

@@ -49,6 +49,9 @@ less_before : (xs ys : List ℕ) → is_lt (slice_cmp nat_cmp xs ys) ≡ before 
 unfolding before
 less_before xs ys = same_from_slice_cmp nat_cmp is_lt before refl (λ _ _. refl) (λ _ _. refl) (λ x y xs ys o h. grind (arith, nat_tests)) xs ys (slice_cmp nat_cmp xs ys) refl
 
+pub before_ordered : (xs ys : List ℕ) (o : Ordering) (r : Bool) → o ≡ slice_cmp nat_cmp xs ys → r ≡ is_lt o → r ≡ before xs ys
+before_ordered xs ys o r e f = f ∙ ap is_lt e ∙ less_before xs ys
+
 equal_same : (xs ys : List ℕ) → is_eq (slice_cmp nat_cmp xs ys) ≡ same xs ys
 equal_same xs ys = same_from_slice_cmp nat_cmp is_eq same refl (λ _ _. refl) (λ _ _. refl) (λ x y xs ys o h. grind (arith, nat_tests)) xs ys (slice_cmp nat_cmp xs ys) refl
 

@@ -13,7 +13,7 @@ pub fn fold(x: i32) -> u32
     ensures { result ≡ folded x }
 {
     if x < 0 {
-        !x as u32 * 2 + 1
+        (-1 - x) as u32 * 2 + 1
     } else {
         x as u32 * 2
     }

@@ -1,7 +1,5 @@
 use borrow.Author.Rules.{rules}
 use native.Mathlib.Omega.{arith}
-use mathlib.Core.Path.{◌≡◌}
-use Rattle.model.specs.Figures.{most_nodes}
 use Rattle.table.specs.View.{view}
 use Rattle.reach.proofs.Nodes.{few-nodes}
 use Rattle.reach.proofs.Waves.{wave_start, wave_on, wave_stop, wave_end}
@@ -27,5 +25,4 @@ loop-k-preserved c =
 
 pub returns : goal.returns
 returns c =
-    let e : c.loop-k.k ≡ most_nodes = omega arith in
-    rw e at (wave_end c.args.clock (view c.args.t c.args.mem.now) (few-nodes c.args.t c.args.mem.now c.requires.kept.arranged) c.args.first c.loop-k.k c.loop-k.w c.loop-k.invariant (omega arith))
+    wave_end c.args.clock (view c.args.t c.args.mem.now) (few-nodes c.args.t c.args.mem.now c.requires.kept.arranged) c.args.first c.loop-k.k c.loop-k.w c.loop-k.invariant (omega arith) _ (omega arith)

@@ -10,7 +10,7 @@ loop-k-init c =
 
 pub returns-in_default : goal.returns-in_default
 returns-in_default c =
-    never_stops c.args.clock c.args.s.now c.args.at c.args.count c.args.mem.now c.loop-k.t c.loop-k.mem c.loop-k.cursor.place c.loop-k.cursor.low c.loop-k.k c.loop-k.invariant c.requires.1.1.1 c.loop-k-test.true c.in_default.ensures
+    never_stops c.args.clock c.args.s.now c.args.at c.args.count c.args.mem.now c.loop-k.t c.loop-k.mem c.loop-k.cursor.place c.loop-k.cursor.low c.loop-k.k c.loop-k.invariant c.requires.1.1.1 c.loop-k-test.true c.in_default.ensures.0
 
 pub insert-t-requires : goal.insert-t-requires
 insert-t-requires c = (

@@ -3,7 +3,7 @@ use Rattle.snapshot.proofs.load.is_whole.Goals as goal
 
 pub returns-in_default : goal.returns-in_default
 returns-in_default c =
-    judged_stops c.args.s.now c.args.at c.args.count c.args.own c.loop-k.cursor.place c.loop-k.cursor.low c.loop-k.held c.loop-k._k c.loop-k.invariant c.loop-k-test.true c.in_default.ensures
+    judged_stops c.args.s.now c.args.at c.args.count c.args.own c.loop-k.cursor.place c.loop-k.cursor.low c.loop-k.held c.loop-k._k c.loop-k.invariant c.loop-k-test.true c.in_default.ensures.0
 
 pub loop-k-preserved : goal.loop-k-preserved
 loop-k-preserved c =
