@@ -240,6 +240,7 @@ pub fn purge(t: Table, marks: [bool; MOST_NODES]) -> Table
     let mut n = t;
     let mut j = 0;
     for (e, kept) in t.entries[..t.count].iter().zip(&marks) {
+        // Before the test: the places behind the count are part of what C gets.
         n.entries[j] = *e;
         if *kept {
             j += 1;
@@ -304,6 +305,7 @@ pub fn begin(own: u32, clock: u64, mem: &[u8]) -> Table
     ensures { Kept result mem.now × (view result mem.now ≡ entry_of own 0 [] (anew clock) ∷ []) }
 {
     let e = Version::anew(own, 0, clock).entry(0, 0, hash16(&[]));
+    // It stands in all places, as C gets those behind the count too.
     Table {
         count: 1,
         entries: [e; MOST_NODES],
