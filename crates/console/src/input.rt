@@ -62,18 +62,18 @@ impl StandardInput {
 }
 
 // The lines of standard input: what is read and not yet taken are the window's bytes from `from` to `end`.
-pub struct Lines {
+pub struct Lines<const N: usize> {
     input: StandardInput,
-    pub window: [u8; 131072],
+    pub window: [u8; N],
     from: usize,
     end: usize,
     ghost in_order: { from ≤ end },
-    ghost within: { end ≤ 131072 },
+    ghost within: { end ≤ N },
 }
 
-impl Lines {
+impl<const N: usize> Lines<N> {
     // From the first on.
-    pub fn new(input: StandardInput) -> Lines {
+    pub fn new(input: StandardInput) -> Lines<N> {
         Lines {
             input,
             window: filled(0),
@@ -84,7 +84,7 @@ impl Lines {
 
     // The error of the read that failed, where one did.
     pub fn all_read(self) -> Result<()>
-        ensures { OnOk result (self.input.failure ≡ None) }
+        ensures { OnOk result (self.entry.input.failure ≡ None) }
     {
         let Lines {
             input,
@@ -100,15 +100,17 @@ impl Lines {
         ensures { IfSome result (λ n. self.now.from + n < self.now.end) }
     {
         let (from, end) = (self.from, self.end);
-        self.window[from..end].iter().position(|b| *b == b'\n')
+        let window = &self.window[..];
+        window[from..end].iter().position(|b| *b == b'\n')
     }
 
     // What is not yet taken goes to the front, and more is read behind it.
     fn refill(&mut self) {
         let (from, end) = (self.from, self.end);
-        self.window.copy_within(from..end, 0);
+        let window = &mut self.window[..];
+        window.copy_within(from..end, 0);
         let rest = end - from;
-        let got = self.input.read_full(&mut self.window[rest..]);
+        let got = self.input.read_full(&mut window[rest..]);
         self.from = 0;
         self.end = rest + got;
     }
@@ -116,7 +118,7 @@ impl Lines {
     // Where the next line stands in the window: a part of it that is lent on from here has no rule yet beside a ghost field. The last line may have no line
     // end; one that is longer than the window is cut.
     pub fn next_line(&mut self) -> Option<Range<usize>>
-        ensures { IfSome result (λ line. (line.start ≤ line.end) × (line.end ≤ 131072)) }
+        ensures { IfSome result (λ line. (line.start ≤ line.end) × (line.end ≤ N)) }
     {
         let mut length = self.line_length();
         if length.is_none() {

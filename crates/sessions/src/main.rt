@@ -16,8 +16,11 @@ use console::output::StandardOutput;
 use session::Session;
 use std::io;
 
+// Room for the longest line that is not cut: a snapshot of 33,319 bytes takes 66,638 digits.
+const WINDOW: usize = 131072;
+
 // Line by line to the end of the input, or to a write that fails. A proved loop has to end, and nothing says that the input does: no run uses up the turns.
-fn run(lines: &mut Lines, out: &mut StandardOutput, session: &mut Session)
+fn run(lines: &mut Lines<WINDOW>, out: &mut StandardOutput, session: &mut Session)
     requires { Running session.old }
 {
     for _turn in 0..u64::MAX {
@@ -31,9 +34,8 @@ fn run(lines: &mut Lines, out: &mut StandardOutput, session: &mut Session)
     }
 }
 
-// The window has room for the longest line that is not cut: a snapshot of 33,319 bytes takes 66,638 digits.
 fn main(rt: HostRuntime) -> io::Result<()> {
-    let mut lines = Lines::new(StandardInput::new(rt.stdin()));
+    let mut lines: Lines<WINDOW> = Lines::new(StandardInput::new(rt.stdin()));
     let mut out = StandardOutput::new(rt.stdout());
     let mut session = Session::new();
     run(&mut lines, &mut out, &mut session);
